@@ -1,0 +1,1 @@
+// The buffered run: threads with store buffers, by the buffer rules.
