@@ -1,11 +1,11 @@
 -- The run of generated threads: its answer, the state it shows and the full contents of the eight lent rooms, for every input.
 use mathlib.Core.Bool.{Bool, true, false, cond}
 use mathlib.Core.Option.{Option, none, some}
-use Prim.Native.Nat.{ℕ, suc, _*_}
+use Prim.Native.Nat.{ℕ, _*_}
 use mathlib.Core.List.{List, [], _∷_, map}
 use lib.ListN.{length, getD, take}
 use lib.Dec.{ltb}
-use Rattle.lists.specs.Lists.{collect}
+use Rattle.lists.specs.Lists.{each, collect}
 use Rattle.thread.specs.declared.Line.{Line}
 use Rattle.thread.specs.declared.Refusal.{Refusal}
 use Rattle.thread.specs.Sizes.{mostLines, mostThreads, edgeWidth}
@@ -58,11 +58,6 @@ unfoldable pub shownGenerated : List ℕ → Generated → ShownThread
 unfolding shownAt nodeAt
 shownGenerated nodes g = shownAt (nodeAt nodes (g .node)) g
 
--- the threads one after the other, each by its own number, from t on
-unfoldable pub eachFrom : {A B : Type 0} → (ℕ → A → B) → ℕ → List A → List B
-eachFrom f t [] = []
-eachFrom f t (a ∷ l) = f t a ∷ eachFrom f (suc t) l
-
 -- the lent rooms of each thread after the run: "rooms beyond it become zero"
 unfoldable pub roomsAfter : (ℕ → ℕ) → (ℕ → List ℕ) → ℕ → List (List ℕ)
 unfolding collect
@@ -79,11 +74,11 @@ unfolding run items generatedStep edgeTable builtFor startWorld startGenerated
 standGenerated s rooms = run (λ t. generatedStep (edgeTable (builtFor s rooms t))) (items (s .schedule)) 0 (startWorld (startGenerated s) s)
 
 unfoldable pub resultGenerated : Start → Rooms → Stand Generated → GeneratedResult
-unfolding endOf shownState eachFrom shownGenerated builtFor roomsAfter
+unfolding endOf shownState each shownGenerated builtFor roomsAfter
 resultGenerated s rooms e =
     record {
       ended = endOf e;
-      state = shownState (e .world .memory) (eachFrom (λ t. shownGenerated (builtFor s rooms t .nodes)) 0 (e .world .threads));
+      state = shownState (e .world .memory) (each (λ t. shownGenerated (builtFor s rooms t .nodes)) (e .world .threads));
       nodes = roomsAfter (nodeRoom rooms) (λ t. builtFor s rooms t .nodes) (s .count);
       edges = roomsAfter (edgeRoom rooms) (λ t. builtFor s rooms t .edges) (s .count);
     }

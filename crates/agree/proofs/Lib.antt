@@ -1,0 +1,3 @@
+pub mod Middle
+pub mod Same
+pub mod Numbers
