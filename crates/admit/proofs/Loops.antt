@@ -10,23 +10,13 @@ use mathlib.Core.List.{List, [], _++_, map, List·Memᴰ, List·Memᴰ·head, Me
 use lib.ListN.{length}
 use lib.Dec.{T, eqb→eq, eqb-refl}
 use Rattle.lists.specs.Lists.{All, any, listed, collect}
-use Rattle.lists.proofs.Lists.{pigeonhole, all-at, all-cond, any-at, any-some, mem-map, map-mem}
+use Rattle.lists.proofs.Lists.{collect-mem, pigeonhole, all-at, all-cond, any-at, any-some, mem-map, map-mem}
 use Rattle.lists.proofs.Tests.{both, and-T}
 use Rattle.explore.specs.Explore.{Arc, Sound, reach-start, reach-step, Over}
 use Rattle.explore.proofs.Laws.{explore-right, explore-done}
 use Rattle.thread.specs.declared.Line.{Line}
 use Rattle.thread.specs.Table.{line, sameLine, Prog, isStore}
 use Rattle.admit.specs.Lines.{drains, follows, passes, toLine, Leads, Unfenced, lineSystem, linesFound, leads, unfenced}
-
--- what is collected of a number in range is listed
-pub mem-collect : {A : Type 0} (f : ℕ → Option A) (k n j : ℕ) (a : A) → k ≤ j → j < k + n → f j ≡ some a → List·Memᴰ a (collect f k n)
-unfolding collect listed
-mem-collect f k zero j a g h e = absurd (omega arith)
-mem-collect {A} f k (suc n) j a g h e = go (λ l. mem-collect f (suc k) n j a l (omega arith) e) (decLt k j)
-  where
-    go : (suc k ≤ j → List·Memᴰ a (collect f (suc k) n)) → Dec (k < j) → List·Memᴰ a (listed (f k) ++ collect f (suc k) n)
-    go later (yes l) = Memᴰ·append-right (listed (f k)) (later l)
-    go later (no l) = let q : k ≡ j = omega arith in rw (q, e) (List·Memᴰ·head refl)
 
 -- the lines below n
 below : ℕ → List Line
@@ -42,7 +32,7 @@ below-length n = go 0 n
 
 below-has : (n : ℕ) (l : Line) → l .0 < n → List·Memᴰ l (below n)
 unfolding below
-below-has n l h = mem-collect (λ k. some (line k)) 0 n (l .0) l (omega arith) (omega arith) refl
+below-has n l h = collect-mem (λ k. some (line k)) 0 n l (record { number = l .0; from = omega arith; below = omega arith; gives = refl })
 
 pub line-sound : (out : Line → List Line) (n : ℕ) (k : Line) → Sound (lineSystem out n k)
 line-sound out n k a b = (λ t. ap line (eqb→eq (a .0) (b .0) t), λ e. subst (λ (c : Line). T (sameLine a c)) e (eqb-refl (a .0)))

@@ -9,13 +9,13 @@ use mathlib.Core.List.{List, [], _∷_, _++_, List·Memᴰ}
 use lib.ListN.{length, getElem?, length-append}
 use lib.Dec.{T}
 use Rattle.lists.specs.Lists.{listed, collect}
+use Rattle.lists.proofs.Lists.{collect-mem}
 use Rattle.lists.proofs.Tests.{is-true}
 use Rattle.thread.specs.declared.Line.{Line}
 use Rattle.thread.specs.Sizes.{mostStores}
 use Rattle.thread.specs.Table.{line, Prog, isStore}
 use Rattle.admit.specs.Checks.{storeLines}
 use Rattle.admit.specs.Given.{Seventeenth}
-use Rattle.admit.proofs.Loops.{mem-collect}
 
 module _ {A : Type 0} (f : ℕ → Option A) where
   -- element j of what is collected from k on: it is given at number k + at, with j elements before it
@@ -80,7 +80,7 @@ module _ (prog : Prog) where
 
   pub store-listed : (n : ℕ) (l : Line) → l .0 < n → T (isStore (prog l)) → List·Memᴰ l (storeLines prog n)
   unfolding storeLines
-  store-listed n l h t = mem-collect storeAt 0 n (l .0) l (omega arith) (omega arith) (store-gives l t)
+  store-listed n l h t = collect-mem storeAt 0 n l (record { number = l .0; from = omega arith; below = omega arith; gives = store-gives l t })
 
   pub seventeenth-iff : (n : ℕ) (l : Line) → (getElem? (storeLines prog n) mostStores ≡ some l) ↔ Seventeenth prog n l
   unfolding storeLines
