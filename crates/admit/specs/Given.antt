@@ -3,7 +3,7 @@ use mathlib.Core.Path.{_≡_}
 use mathlib.Core.Logic.{_⊎_, _≢_}
 use mathlib.Core.Bool.{Bool, true, false, not}
 use Prim.Native.Nat.{ℕ, _<_, _*_, _%_}
-use mathlib.Core.List.{List, [], _∷_}
+use mathlib.Core.List.{List, [], _∷_, _++_}
 use lib.ListN.{length}
 use lib.Dec.{T}
 use Rattle.lists.specs.Lists.{Lowest}
@@ -37,8 +37,9 @@ pub record Seventeenth (prog : Prog) (n : ℕ) (l : Line) : Type 0 where
   pub isStored : T (isStore (prog l))
   pub before : length (storeLines prog (l .0)) ≡ mostStores
 
-abbrev pub conditions : ℕ → List ℕ → List Condition
-conditions m t =
+-- 2 to 9
+abbrev pub beforeLoops : ℕ → List ℕ → List Condition
+beforeLoops m t =
     plainly R.BadModel (1 < m)
     ∷ plainly R.NoLines (t ≡ [])
     ∷ plainly R.TooManyLines (mostLines * lineWidth < length t)
@@ -47,8 +48,11 @@ conditions m t =
     ∷ atLine R.TooManyStores (Seventeenth (instrAt t) (linesOf t))
     ∷ atLine R.BadTarget (LowestLine (λ l. T (wrongTarget (linesOf t) (instrAt t l))) (linesOf t))
     ∷ plainly (R.NoNext (lastLine t)) (T (goesOn (instrAt t (lastLine t))))
-    ∷ atLine R.UnfencedLoop (LowestLine (Unfenced (instrAt t)) (linesOf t))
     ∷ []
+
+-- 2 to 10
+abbrev pub conditions : ℕ → List ℕ → List Condition
+conditions m t = beforeLoops m t ++ atLine R.UnfencedLoop (LowestLine (Unfenced (instrAt t)) (linesOf t)) ∷ []
 
 -- r is given by the first condition that holds
 abbrev pub GivenBy : List Condition → Refusal → Type 0
