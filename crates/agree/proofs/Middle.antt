@@ -24,12 +24,13 @@ use Rattle.waiting.specs.Discipline.{Ready, addWait, newest, ready, readyFor}
 use Rattle.waiting.proofs.Mapped.{map-addWait, map-newest, mapReady, map-readyFor}
 use Rattle.waiting.proofs.Queues.{first-ready}
 use Rattle.runs.specs.Run.{In}
+use Rattle.runs.proofs.Worlds.{within}
 use Rattle.builder.specs.Graph.{Standing, loadOp, edge, programEdges, putEdge, edgesOf}
 use Rattle.buffered.specs.Machine.{Pair, varOf, Buffered, programStep, putPair, bufferedStep}
 use Rattle.generated.specs.Machine.{waitingValue, choiceOf, testHolds, serves, Values, act}
 
-abbrev pub within : {T U : Type 0} → (T → U) → In T → In U
-within f s = record { memory = s .memory; own = f (s .own) }
+
+
 
 pub record Middle : Type 0 where
   pub standing : Standing

@@ -22,10 +22,11 @@ use Rattle.thread.specs.Table.{Prog, next, varAt, stores, isStore}
 use Rattle.waiting.specs.Discipline.{Ready, addWait, newest, ready}
 use Rattle.waiting.proofs.Mapped.{map-addWait, map-newest}
 use Rattle.runs.specs.Run.{In}
+use Rattle.runs.proofs.Worlds.{within}
 use Rattle.builder.specs.Graph.{Standing, programEdges, putEdge, edgesOf}
 use Rattle.buffered.specs.Machine.{Pair, varOf, Buffered, programStep, bufferedStep}
 use Rattle.generated.specs.Machine.{waitingValue, serves, Values}
-use Rattle.agree.proofs.Middle.{within, Middle, arrive, followArc, test, middleStep, pairOf, shows, no-put, same-put}
+use Rattle.agree.proofs.Middle.{Middle, arrive, followArc, test, middleStep, pairOf, shows, no-put, same-put}
 
 -- an auxiliary that is written shows in no line that waits
 kept : (prog : Prog) (A : List ℕ) (l : Line) (v : ℕ) (w : List Line) → (List·Memᴰ l w → ⊥) → map (pairOf prog (set A (l .0) v)) w ≡ map (pairOf prog A) w

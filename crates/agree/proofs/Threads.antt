@@ -1,0 +1,104 @@
+-- One accepted thread: its generated step, shown, is the buffered step of what is shown, and goes on being so.
+use mathlib.Core.Path.{_≡_, refl, ap, _∙_, sym, subst}
+use mathlib.Core.Option.{Option, none, some, Option·map}
+use Prim.Native.Nat.{ℕ, _+_, _*_, _≤_, _<_}
+use native.Mathlib.Omega.{arith}
+use mathlib.Core.List.{List, [], _∷_, map, List·Memᴰ}
+use lib.ListN.{length, getD, take}
+use Rattle.lists.proofs.Lists.{Holds, holds-imp, mem-getD}
+use Rattle.explore.specs.Explore.{Graph, Outcome, Right, done}
+use Rattle.thread.specs.declared.Line.{Line}
+use Rattle.thread.specs.declared.Model.{Model}
+use Rattle.thread.specs.declared.Op.{Op}
+use Rattle.thread.specs.Sizes.{mostLines, variables}
+use Rattle.thread.specs.Table.{Prog, instrAt, linesOf, varAt}
+use Rattle.admit.specs.Lines.{follows}
+use Rattle.admit.specs.Checks.{modelOf}
+use Rattle.admit.proofs.Instructions.{good-var}
+use Rattle.admit.proofs.Loops.{leads-inside}
+use Rattle.admit.proofs.Given.{Admitted, admitted}
+use Rattle.builder.specs.Graph.{Standing, begin, graphSystem}
+use Rattle.builder.specs.Build.{capOf, explored, graphFound, refusal, build, accepted, buildAnswer}
+use Rattle.builder.specs.Records.{numbered}
+use Rattle.builder.proofs.Waits.{Good, fresh}
+use Rattle.builder.proofs.Pending.{good}
+use Rattle.builder.proofs.Given.{Accepted, accepted-when}
+use Rattle.builder.proofs.Tables.{fit, when-accepted}
+use Rattle.builder.proofs.TheGraph.{Reads, read-back}
+use Rattle.runs.specs.Run.{In}
+use Rattle.runs.proofs.Worlds.{within}
+use Rattle.buffered.specs.Machine.{Buffered, bufferedStep}
+use Rattle.generated.specs.Machine.{Generated, generatedStep}
+use Rattle.generated.specs.RunGenerated.{edgeTable}
+use Rattle.agree.proofs.Middle.{Middle, shows, middleStep}
+use Rattle.agree.proofs.Same.{Fresh, same-step}
+use Rattle.agree.proofs.Numbers.{Linked, named, nameState, same-named, step-keeps}
+
+map-twice : {A B C : Type 0} (g : B → C) (f : A → B) (o : Option A) → Option·map (λ a. g (f a)) o ≡ Option·map g (Option·map f o)
+map-twice g f none = refl
+map-twice g f (some a) = refl
+
+-- what a generated thread shows as a buffered one, with its nodes by number
+unfoldable pub viewBy : Prog → List Standing → Generated → Buffered
+unfolding shows named
+viewBy prog ns a = shows prog (named ns a)
+
+module _ (m : ℕ) (t : List ℕ) (nodeRoom edgeRoom : ℕ) where
+  -- the nodes of the thread's graph, in number order
+  unfoldable pub nodesOf : List Standing
+  unfolding graphFound
+  nodesOf = graphFound (explored m t nodeRoom) .nodes
+
+  abbrev pub view : Generated → Buffered
+  view = viewBy (instrAt t) nodesOf
+
+  -- what stays true of a generated thread
+  pub record Alive (a : Generated) : Type 0 where
+    pub free : refusal m t nodeRoom edgeRoom ≡ none
+    pub known : a .node .0 < length nodesOf
+    pub room : mostLines ≤ length (a .auxiliaries)
+
+  abbrev pub table : List ℕ
+  table = edgeTable (build m t nodeRoom edgeRoom)
+
+  pub nodes-are : (a : Accepted m t nodeRoom edgeRoom) → nodesOf ≡ a .graph .nodes
+  unfolding nodesOf graphFound
+  nodes-are a = ap (λ (o : Outcome Standing Op). graphFound o .nodes) (a .found)
+
+  linked : (a : Accepted m t nodeRoom edgeRoom) → refusal m t nodeRoom edgeRoom ≡ none → Linked (modelOf m) (instrAt t) (capOf nodeRoom) (a .graph) table
+  unfolding edgeTable accepted buildAnswer
+  linked a e = record { right = a .right; reads = rw (when-accepted m t nodeRoom edgeRoom a e) (read-back nodeRoom edgeRoom (a .graph) (fit m t nodeRoom edgeRoom a) .edges) }
+
+  module _ (s : In Generated) (g : Alive (s .own)) where
+    acc : Accepted m t nodeRoom edgeRoom
+    acc = accepted-when m t nodeRoom edgeRoom (g .free)
+
+    ok : Admitted m t
+    ok = admitted m t (acc .free)
+
+    inside : s .own .node .0 < length (acc .graph .nodes)
+    inside = subst (λ (l : List Standing). s .own .node .0 < length l) (nodes-are acc) (g .known)
+
+    fresh-state : Fresh (instrAt t) (nameState (acc .graph .nodes) s)
+    unfolding named
+    fresh-state =
+        let n : Standing = getD (acc .graph .nodes) (s .own .node .0) begin in
+        let h : Good (instrAt t) n = good m t ok (modelOf m) (acc .right .nodes n .0 (mem-getD (acc .graph .nodes) (s .own .node .0) begin inside)) in
+        record {
+          inside = omega (arith, g .room, ok .few-lines, leads-inside (follows (instrAt t)) (linesOf t) (ok .stays) (ok .some-lines) (h .reached));
+          new = λ b. fresh (modelOf m) (instrAt t) (ok .fenced) (n .line) (n .waiting) (h .waits);
+        }
+
+    pub same-thread : (c : ℕ) → Option·map (within view) (generatedStep table c s) ≡ bufferedStep (modelOf m) (instrAt t) c (within view s)
+    unfolding viewBy named
+    same-thread c =
+        subst (λ (ns : List Standing). Option·map (within (viewBy (instrAt t) ns)) (generatedStep table c s) ≡ bufferedStep (modelOf m) (instrAt t) c (within (viewBy (instrAt t) ns) s)) (sym (nodes-are acc))
+        (map-twice (within (shows (instrAt t))) (nameState (acc .graph .nodes)) (generatedStep table c s)
+        ∙ ap (Option·map (within (shows (instrAt t)))) (same-named (modelOf m) (instrAt t) (capOf nodeRoom) (acc .graph) table (linked acc (g .free)) c s inside)
+        ∙ same-step (modelOf m) (instrAt t) (λ l. good-var (instrAt t) l (ok .instrs l)) c (nameState (acc .graph .nodes) s) fresh-state)
+
+    pub stays-alive : (c : ℕ) → Holds (λ r. Alive (r .own)) (generatedStep table c s)
+    stays-alive c =
+        holds-imp (λ (r : In Generated). (r .own .node .0 < length (acc .graph .nodes)) × (length (r .own .auxiliaries) ≡ length (s .own .auxiliaries))) (λ r. Alive (r .own))
+        (λ r h. record { free = g .free; known = rw (nodes-are acc) (h .0); room = omega (arith, g .room, h .1) }) (generatedStep table c s)
+        (step-keeps (modelOf m) (instrAt t) (capOf nodeRoom) (acc .graph) table (linked acc (g .free)) c s inside)
