@@ -4,4 +4,6 @@ pub mod Numbers
 pub mod Threads
 pub mod Shown
 pub mod Refusals
+pub mod TheTables
 pub mod Whole
+pub mod Limit

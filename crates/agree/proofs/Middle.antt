@@ -25,12 +25,9 @@ use Rattle.waiting.proofs.Mapped.{map-addWait, map-newest, mapReady, map-readyF
 use Rattle.waiting.proofs.Queues.{first-ready}
 use Rattle.runs.specs.Run.{In}
 use Rattle.runs.proofs.Worlds.{within}
-use Rattle.builder.specs.Graph.{Standing, loadOp, edge, programEdges, putEdge, edgesOf}
+use Rattle.graphs.specs.Graph.{Standing, loadOp, edge, programEdges, putEdge, edgesOf}
 use Rattle.buffered.specs.Machine.{Pair, varOf, Buffered, programStep, putPair, bufferedStep}
 use Rattle.generated.specs.Machine.{waitingValue, choiceOf, testHolds, serves, Values, act}
-
-
-
 
 pub record Middle : Type 0 where
   pub standing : Standing

@@ -20,8 +20,8 @@ use Rattle.thread.specs.declared.Op.the-variants as O
 use Rattle.thread.specs.Numbers.{_!_}
 use Rattle.thread.specs.Table.{Prog}
 use Rattle.runs.specs.Run.{In}
-use Rattle.builder.specs.Graph.{Standing, begin, edgesOf, graphSystem}
-use Rattle.builder.specs.Records.{node, Edge, numbered, edgesIn}
+use Rattle.graphs.specs.Graph.{Standing, begin, edgesOf, graphSystem}
+use Rattle.graphs.specs.Records.{node, Edge, numbered, edgesIn}
 use Rattle.generated.specs.Machine.{Generated, serves, Values, values, act, follow, sameNode, edgeFor, generatedStep}
 use Rattle.agree.proofs.Middle.{Middle, arrive, followArc, test, middleStep}
 
@@ -96,7 +96,7 @@ aux-same : (b : Bool) (u v : Values) (n : ℕ) → length (u .auxiliaries) ≡ n
 aux-same true u v n p q = p
 aux-same false u v n p q = q
 
-act-length : (o : Op) (M R A : List ℕ) → length (act o M R A .auxiliaries) ≡ length A
+pub act-length : (o : Op) (M R A : List ℕ) → length (act o M R A .auxiliaries) ≡ length A
 unfolding act
 act-length (O.Set r v) M R A = refl
 act-length (O.Copy r s) M R A = refl

@@ -9,7 +9,7 @@ use native.Mathlib.Omega.{arith}
 use native.Mathlib.Decide.{decLt}
 use mathlib.Core.List.{List, []}
 use lib.ListN.{getD, length}
-use lib.Dec.{eqb, ltb}
+use lib.Dec.{ltb}
 use Rattle.lists.specs.Lists.{Lowest}
 use Rattle.lists.proofs.Lists.{not-some}
 use Rattle.lists.proofs.Tests.{lt-true, lt-false, eq-false}
@@ -17,24 +17,21 @@ use Rattle.thread.specs.declared.Refusal.{Refusal}
 use Rattle.thread.specs.declared.Refusal.the-variants as R
 use Rattle.thread.specs.Sizes.{mostThreads}
 use Rattle.thread.specs.Numbers.{zeros}
-use Rattle.admit.specs.Checks.{admission}
-use Rattle.admit.specs.Given.{conditions, GivenBy}
-use Rattle.admit.proofs.Given.{given-iff}
-use Rattle.builder.specs.declared.Built.{Built}
-use Rattle.builder.specs.declared.Built.the-variants as B
-use Rattle.builder.specs.Build.{Result, refusal, refused, accepted, build}
-use Rattle.builder.specs.Given.{GivenBuild}
-use Rattle.builder.proofs.Given.{given-build, given-build-only, accepted-when}
-use Rattle.builder.proofs.Records.{collect-at}
-use Rattle.builder.proofs.Tables.{when-refused, when-accepted}
+use Rattle.checks.specs.Checks.{admission}
+use Rattle.checks.specs.Given.{conditions, GivenBy}
+use Rattle.checks.proofs.Given.{given-iff}
+use Rattle.graphs.specs.declared.Built.the-variants as B
+use Rattle.graphs.specs.Build.{Result, refusal, refused, accepted, build}
+use Rattle.graphs.specs.Given.{GivenBuild}
+use Rattle.graphs.proofs.Given.{given-build, given-build-only, accepted-when}
+use Rattle.graphs.proofs.Records.{collect-at}
+use Rattle.graphs.proofs.Tables.{when-refused, when-accepted}
 use Rattle.runs.specs.declared.Ended.{Ended}
 use Rattle.runs.specs.declared.Ended.the-variants as E
 use Rattle.runs.specs.Run.{Stand, badThreads, Bad, firstBad, threadsRefused, endOf}
 use Rattle.runs.specs.Start.{Start, tableOf}
-use Rattle.runs.specs.Shown.{Shown, zeroState}
-use Rattle.buffered.specs.Machine.{Buffered}
+use Rattle.runs.specs.Shown.{zeroState}
 use Rattle.buffered.specs.RunBuffered.{BufferedResult, standBuffered, resultBuffered, runBuffered}
-use Rattle.generated.specs.Machine.{Generated}
 use Rattle.generated.specs.RunGenerated.{Rooms, nodeRoom, edgeRoom, roomsAfter, GeneratedResult, standGenerated, resultGenerated, threadRefusal, runGenerated}
 use Rattle.agree.specs.Demands.{Demand1, GivenRun, Demand1Buffered, Demand1Generated}
 
@@ -177,8 +174,8 @@ module _ (refusal : ℕ → Option Refusal) (count : ℕ) where
   bad-iff given iff t r = (
     λ e. ⊎-elim (λ (w : Wrong count). named w (sym (wrong-count w) ∙ e)) (λ (p : (0 < count) × (count ≤ mostThreads)). found p (sym (right-count (p .0) (p .1)) ∙ e)) (wrong-or-right count),
     ⊎-elim
-    (λ (p : Wrong count × (t ≡ 0) × (r ≡ R.BadThreads)). rw (p .1, p .2) (wrong-count (p .0)))
-    (λ (p : (0 < count) × (count ≤ mostThreads) × Lowest (λ k. (q : Refusal) × given k q) count t × given t r).
+        (λ (p : Wrong count × (t ≡ 0) × (r ≡ R.BadThreads)). rw (p .1, p .2) (wrong-count (p .0)))
+        (λ (p : (0 < count) × (count ≤ mostThreads) × Lowest (λ k. (q : Refusal) × given k q) count t × given t r).
         right-count (p .0) (p .1) ∙ says-only refusal 0 count (firstBad refusal 0 count) (some (bad t r)) (first-says refusal 0 count) (first-given (p .2) (p .3))),
   )
     where

@@ -23,7 +23,7 @@ use Rattle.waiting.specs.Discipline.{Ready, addWait, newest, ready}
 use Rattle.waiting.proofs.Mapped.{map-addWait, map-newest}
 use Rattle.runs.specs.Run.{In}
 use Rattle.runs.proofs.Worlds.{within}
-use Rattle.builder.specs.Graph.{Standing, programEdges, putEdge, edgesOf}
+use Rattle.graphs.specs.Graph.{Standing, programEdges, putEdge, edgesOf}
 use Rattle.buffered.specs.Machine.{Pair, varOf, Buffered, programStep, bufferedStep}
 use Rattle.generated.specs.Machine.{waitingValue, serves, Values}
 use Rattle.agree.proofs.Middle.{Middle, arrive, followArc, test, middleStep, pairOf, shows, no-put, same-put}

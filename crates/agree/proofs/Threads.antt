@@ -12,19 +12,19 @@ use Rattle.thread.specs.declared.Model.{Model}
 use Rattle.thread.specs.declared.Op.{Op}
 use Rattle.thread.specs.Sizes.{mostLines, variables}
 use Rattle.thread.specs.Table.{Prog, instrAt, linesOf, varAt}
-use Rattle.admit.specs.Lines.{follows}
-use Rattle.admit.specs.Checks.{modelOf}
-use Rattle.admit.proofs.Instructions.{good-var}
-use Rattle.admit.proofs.Loops.{leads-inside}
-use Rattle.admit.proofs.Given.{Admitted, admitted}
-use Rattle.builder.specs.Graph.{Standing, begin, graphSystem}
-use Rattle.builder.specs.Build.{capOf, explored, graphFound, refusal, build, accepted, buildAnswer}
-use Rattle.builder.specs.Records.{numbered}
-use Rattle.builder.proofs.Waits.{Good, fresh}
-use Rattle.builder.proofs.Pending.{good}
-use Rattle.builder.proofs.Given.{Accepted, accepted-when}
-use Rattle.builder.proofs.Tables.{fit, when-accepted}
-use Rattle.builder.proofs.TheGraph.{Reads, read-back}
+use Rattle.checks.specs.Lines.{follows}
+use Rattle.checks.specs.Checks.{modelOf}
+use Rattle.checks.proofs.Instructions.{good-var}
+use Rattle.checks.proofs.Loops.{leads-inside}
+use Rattle.checks.proofs.Given.{Admitted, admitted}
+use Rattle.graphs.specs.Graph.{Standing, begin, graphSystem}
+use Rattle.graphs.specs.Build.{capOf, explored, graphFound, refusal, build, accepted, buildAnswer}
+use Rattle.graphs.specs.Records.{numbered}
+use Rattle.graphs.proofs.Waits.{Good, fresh}
+use Rattle.graphs.proofs.Pending.{good}
+use Rattle.graphs.proofs.Given.{Accepted, accepted-when}
+use Rattle.graphs.proofs.Tables.{fit, when-accepted}
+use Rattle.graphs.proofs.TheGraph.{Reads, read-back}
 use Rattle.runs.specs.Run.{In}
 use Rattle.runs.proofs.Worlds.{within}
 use Rattle.buffered.specs.Machine.{Buffered, bufferedStep}

@@ -14,13 +14,13 @@ use Rattle.thread.specs.Numbers.{zeros}
 use Rattle.thread.specs.Table.{line, Prog, instrAt}
 use Rattle.thread.specs.Refusal.{numberOf}
 use Rattle.thread.proofs.Refusals.{not-success}
-use Rattle.admit.specs.Checks.{admission, modelOf}
-use Rattle.builder.specs.Graph.{Standing, begin}
-use Rattle.builder.specs.Build.{refusal, refused, build, buildAnswer, accepted}
-use Rattle.builder.specs.Records.{node, nodeAt}
-use Rattle.builder.proofs.Given.{Accepted, accepted-when}
-use Rattle.builder.proofs.Tables.{fit, when-refused, when-accepted}
-use Rattle.builder.proofs.TheGraph.{read-back}
+use Rattle.checks.specs.Checks.{admission, modelOf}
+use Rattle.graphs.specs.Graph.{Standing, begin}
+use Rattle.graphs.specs.Build.{refusal, refused, build, buildAnswer, accepted}
+use Rattle.graphs.specs.Records.{node, nodeAt}
+use Rattle.graphs.proofs.Given.{Accepted, accepted-when}
+use Rattle.graphs.proofs.Tables.{fit, when-refused, when-accepted}
+use Rattle.graphs.proofs.TheGraph.{read-back}
 use Rattle.runs.specs.declared.Ended.{Ended}
 use Rattle.runs.specs.Run.{In, World, Stand, items, run, threadsRefused, endOf, runAnswer}
 use Rattle.runs.specs.Start.{Start, tableOf, registersOf, startWorld}

@@ -13,14 +13,14 @@ use Rattle.thread.specs.Sizes.{mostThreads}
 use Rattle.thread.specs.Numbers.{_!_, zeros}
 use Rattle.thread.specs.Table.{Prog, instrAt, linesOf, varAt}
 use Rattle.thread.specs.Table.{line as toLine}
-use Rattle.admit.specs.Lines.{Cycle}
-use Rattle.admit.specs.Checks.{admission, modelOf}
-use Rattle.admit.specs.Given.{beforeLoops, conditions, GivenBy, LowestLine}
-use Rattle.builder.specs.declared.Built.{Built}
-use Rattle.builder.specs.declared.Built.the-variants as B
-use Rattle.builder.specs.Build.{Result, build, buildAnswer}
-use Rattle.builder.specs.Given.{GivenBuild}
-use Rattle.builder.specs.TheGraph.{TheGraph}
+use Rattle.checks.specs.Lines.{Cycle}
+use Rattle.checks.specs.Checks.{admission, modelOf}
+use Rattle.checks.specs.Given.{beforeLoops, conditions, GivenBy, LowestLine}
+use Rattle.graphs.specs.declared.Built.{Built}
+use Rattle.graphs.specs.declared.Built.the-variants as B
+use Rattle.graphs.specs.Build.{Result, build, buildAnswer}
+use Rattle.graphs.specs.Given.{GivenBuild}
+use Rattle.graphs.specs.TheGraph.{TheGraph}
 use Rattle.runs.specs.declared.Ended.{Ended}
 use Rattle.runs.specs.declared.Ended.the-variants as E
 use Rattle.runs.specs.Run.{runAnswer}

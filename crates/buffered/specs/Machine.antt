@@ -1,4 +1,5 @@
 -- "The thread" and "The two buffers": one buffered thread and its steps.
+use mathlib.Core.Path.{_≡_}
 use mathlib.Core.Bool.{Bool, true, false, cond, _&&_}
 use mathlib.Core.Option.{Option, none, some, Option·map}
 use Prim.Native.Nat.{ℕ, zero, suc}
@@ -11,7 +12,7 @@ use Rattle.thread.specs.declared.Instr.{Instr}
 use Rattle.thread.specs.declared.Instr.the-variants as I
 use Rattle.thread.specs.Word.{add32, sub32}
 use Rattle.thread.specs.Numbers.{_!_}
-use Rattle.thread.specs.Table.{next, Prog}
+use Rattle.thread.specs.Table.{line, next, Prog}
 use Rattle.waiting.specs.Discipline.{Ready, addWait, newest, readyFor, drained}
 use Rattle.runs.specs.Run.{In}
 
@@ -62,6 +63,11 @@ unfoldable pub bufferedStep : Model → Prog → ℕ → In Buffered → Option 
 unfolding programStep putPair readyFor
 bufferedStep m prog zero s = programStep m (prog (s .own .line)) (s .memory) (s .own .line) (s .own .registers) (s .own .waiting)
 bufferedStep m prog (suc x) s = Option·map (putPair (s .memory) (s .own .line) (s .own .registers)) (readyFor varOf m x (s .own .waiting))
+
+-- what a buffered thread can come to, whatever the other threads leave in memory
+pub data Comes (m : Model) (prog : Prog) : Buffered → Type 0 where
+  comes-start : (R : List ℕ) → Comes m prog (record { line = line 0; registers = R; waiting = [] })
+  comes-step : {b : Buffered} (M : List ℕ) (c : ℕ) (s : In Buffered) → Comes m prog b → bufferedStep m prog c (record { memory = M; own = b }) ≡ some s → Comes m prog (s .own)
 
 -- the same with `places` places for pairs: a step that would need more is not there
 unfoldable pub fitting : ℕ → Option (In Buffered) → Option (In Buffered)

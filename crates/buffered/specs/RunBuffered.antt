@@ -3,7 +3,7 @@ use mathlib.Core.Option.{Option, none, some}
 use Prim.Native.Nat.{ℕ}
 use mathlib.Core.List.{List, [], _∷_, map}
 use Rattle.thread.specs.Table.{line, Prog, instrAt}
-use Rattle.admit.specs.Checks.{admission, modelOf}
+use Rattle.checks.specs.Checks.{admission, modelOf}
 use Rattle.runs.specs.declared.Ended.{Ended}
 use Rattle.runs.specs.declared.Ended.the-variants as E
 use Rattle.runs.specs.Run.{Stand, items, run, Bad, threadsRefused, endOf}

@@ -14,7 +14,7 @@ use Rattle.thread.specs.declared.Op.the-variants as O
 use Rattle.thread.specs.Word.{add32, sub32}
 use Rattle.thread.specs.Numbers.{_!_}
 use Rattle.runs.specs.Run.{In}
-use Rattle.builder.specs.Records.{Edge, edgesIn}
+use Rattle.graphs.specs.Records.{Edge, edgesIn}
 
 pub record Generated : Type 0 where
   pub node : Node

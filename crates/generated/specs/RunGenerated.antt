@@ -15,10 +15,10 @@ use Rattle.runs.specs.declared.Ended.the-variants as E
 use Rattle.runs.specs.Run.{Stand, items, run, Bad, threadsRefused, endOf}
 use Rattle.runs.specs.Start.{Start, tableOf, registersOf, startWorld}
 use Rattle.runs.specs.Shown.{Waited, ShownThread, Shown, shownThread, shownState, zeroState}
-use Rattle.builder.specs.declared.Built.{Built}
-use Rattle.builder.specs.Records.{node, nodeAt}
-use Rattle.builder.specs.Graph.{Standing}
-use Rattle.builder.specs.Build.{Result, build, refusal, buildAnswer}
+use Rattle.graphs.specs.declared.Built.{Built}
+use Rattle.graphs.specs.Records.{node, nodeAt}
+use Rattle.graphs.specs.Graph.{Standing}
+use Rattle.graphs.specs.Build.{Result, build, refusal, buildAnswer}
 use Rattle.generated.specs.Machine.{Generated, waitingValue, generatedStep}
 
 -- how many numbers are lent for the nodes and edges of each thread
@@ -93,10 +93,10 @@ unfolding threadsRefused threadRefusal standGenerated resultGenerated roomsAfter
 runGenerated s rooms =
     elim (threadsRefused (threadRefusal s rooms) (s .count)) [
       | some b ↦ record {
-          ended = E.Refused (b .thread) (b .refusal);
-          state = zeroState;
-          nodes = roomsAfter (nodeRoom rooms) (λ t. []) 0;
-          edges = roomsAfter (edgeRoom rooms) (λ t. []) 0;
-        }
+        ended = E.Refused (b .thread) (b .refusal);
+        state = zeroState;
+        nodes = roomsAfter (nodeRoom rooms) (λ t. []) 0;
+        edges = roomsAfter (edgeRoom rooms) (λ t. []) 0;
+      }
       | none ↦ resultGenerated s rooms (standGenerated s rooms)
     ]
