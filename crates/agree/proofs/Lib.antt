@@ -7,3 +7,6 @@ pub mod Refusals
 pub mod TheTables
 pub mod Whole
 pub mod Limit
+pub mod Demands
+pub mod Witness
+pub mod Known

@@ -96,3 +96,12 @@ upTo k s = record { model = s .model; count = s .count; tables = s .tables; memo
 
 abbrev pub Demand3 : Start → Rooms → Type 0
 Demand3 s rooms = AllAccepted s rooms → Agree s rooms × ((k : ℕ) → Agree (upTo k s) rooms)
+
+-- All of it.
+pub record AllDemands : Type 0 where
+  pub refusals : (m : ℕ) (t : List ℕ) (nodes edges : ℕ) → Demand1 m t nodes edges
+  pub refusals-buffered : (s : Start) → Demand1Buffered s
+  pub refusals-generated : (s : Start) (rooms : Rooms) → Demand1Generated s rooms
+  pub graphs : (m : ℕ) (t : List ℕ) (nodes edges : ℕ) → Demand2 m t nodes edges
+  pub loops : (m : ℕ) (t : List ℕ) → Demand2Loops m t
+  pub runs : (s : Start) (rooms : Rooms) → Demand3 s rooms

@@ -1,0 +1,15 @@
+-- The three demands hold of the definitions.
+use Rattle.agree.specs.Demands.{AllDemands}
+use Rattle.agree.proofs.Refusals.{demand1, demand1-buffered, demand1-generated}
+use Rattle.agree.proofs.TheTables.{demand2, demand2-loops}
+use Rattle.agree.proofs.Whole.{demand3}
+
+pub all-demands : AllDemands
+all-demands = record {
+  refusals = demand1;
+  refusals-buffered = demand1-buffered;
+  refusals-generated = demand1-generated;
+  graphs = demand2;
+  loops = demand2-loops;
+  runs = demand3;
+}
