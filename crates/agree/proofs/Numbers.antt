@@ -21,8 +21,10 @@ use Rattle.thread.specs.Numbers.{_!_}
 use Rattle.thread.specs.Table.{Prog}
 use Rattle.runs.specs.Run.{In}
 use Rattle.graphs.specs.Graph.{Standing, begin, edgesOf, graphSystem}
-use Rattle.graphs.specs.Records.{node, Edge, numbered, edgesIn}
-use Rattle.generated.specs.Machine.{Generated, serves, Values, values, act, follow, sameNode, edgeFor, generatedStep}
+use Rattle.graphs.specs.declared.Edge.{Edge}
+use Rattle.graphs.specs.Records.{node, numbered, edgesIn}
+use Rattle.generated.specs.declared.Generated.{Generated}
+use Rattle.generated.specs.Machine.{serves, Values, values, act, follow, sameNode, edgeFor, generatedStep}
 use Rattle.agree.proofs.Middle.{Middle, arrive, followArc, test, middleStep}
 
 map-map : {A B C : Type 0} (g : B → C) (f : A → B) (o : Option A) → Option·map (λ a. g (f a)) o ≡ Option·map g (Option·map f o)

@@ -28,7 +28,8 @@ use Rattle.graphs.proofs.TheGraph.{Reads, read-back}
 use Rattle.runs.specs.Run.{In}
 use Rattle.runs.proofs.Worlds.{within}
 use Rattle.buffered.specs.Machine.{Buffered, bufferedStep}
-use Rattle.generated.specs.Machine.{Generated, generatedStep}
+use Rattle.generated.specs.declared.Generated.{Generated}
+use Rattle.generated.specs.Machine.{generatedStep}
 use Rattle.generated.specs.RunGenerated.{edgeTable}
 use Rattle.agree.proofs.Middle.{Middle, shows, middleStep}
 use Rattle.agree.proofs.Same.{Fresh, same-step}

@@ -28,7 +28,8 @@ use Rattle.runs.specs.Shown.{ShownThread, Shown, nobody, shownState}
 use Rattle.runs.proofs.Worlds.{Each, viewWorld, viewStand, same-runs, run-keeps}
 use Rattle.buffered.specs.Machine.{Buffered, bufferedStep}
 use Rattle.buffered.specs.RunBuffered.{startThread, shownBuffered, BufferedResult, standBuffered, resultBuffered, runBuffered}
-use Rattle.generated.specs.Machine.{Generated, generatedStep}
+use Rattle.generated.specs.declared.Generated.{Generated}
+use Rattle.generated.specs.Machine.{generatedStep}
 use Rattle.generated.specs.RunGenerated.{Rooms, nodeRoom, edgeRoom, builtFor, edgeTable, startGenerated, shownAt, shownGenerated, GeneratedResult, standGenerated, resultGenerated, threadRefusal, runGenerated}
 use Rattle.agree.specs.Demands.{AllAccepted, SameThread, Agree, upTo, Demand3}
 use Rattle.agree.proofs.Middle.{shows}

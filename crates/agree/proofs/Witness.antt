@@ -12,7 +12,8 @@ use Rattle.thread.specs.Table.{line, instrAt}
 use Rattle.checks.specs.Checks.{modelOf, badModel, noLines, tooManyLines, raggedTable, badField, tooManyStores, badTarget, noNext, unfencedLoop}
 use Rattle.graphs.specs.declared.Built.the-variants as B
 use Rattle.graphs.specs.Build.{build, buildAnswer}
-use Rattle.graphs.specs.Records.{node, Edge, nodeAt, edgesIn}
+use Rattle.graphs.specs.declared.Edge.{Edge}
+use Rattle.graphs.specs.Records.{node, nodeAt, edgesIn}
 use Rattle.graphs.specs.Given.{GivenBuild}
 use Rattle.graphs.specs.TheGraph.{TheGraph, firstEdges}
 use Rattle.runs.specs.declared.Ended.the-variants as E

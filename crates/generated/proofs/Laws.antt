@@ -16,7 +16,7 @@ use Rattle.thread.specs.declared.Op.{Op}
 use Rattle.thread.specs.declared.Op.the-variants as O
 use Rattle.thread.specs.Numbers.{_!_}
 use Rattle.thread.specs.Operation.{operations, opNamed, ifInRange, opOf}
-use Rattle.graphs.specs.Records.{Edge}
+use Rattle.graphs.specs.declared.Edge.{Edge}
 use Rattle.generated.specs.Machine.{waitingValue, choiceOf, testHolds, serves, act, sameNode, edgeFor}
 
 -- "`put` writes it to x": what is put doesn't look at the registers, and is what was kept

@@ -14,12 +14,9 @@ use Rattle.thread.specs.declared.Op.the-variants as O
 use Rattle.thread.specs.Word.{add32, sub32}
 use Rattle.thread.specs.Numbers.{_!_}
 use Rattle.runs.specs.Run.{In}
-use Rattle.graphs.specs.Records.{Edge, edgesIn}
-
-pub record Generated : Type 0 where
-  pub node : Node
-  pub registers : List ℕ
-  pub auxiliaries : List ℕ
+use Rattle.graphs.specs.declared.Edge.{Edge}
+use Rattle.generated.specs.declared.Generated.{Generated}
+use Rattle.graphs.specs.Records.{edgesIn}
 
 -- where the value of a waiting store comes from: the auxiliary of its line
 abbrev pub waitingValue : List ℕ → Line → ℕ

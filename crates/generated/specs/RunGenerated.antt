@@ -19,7 +19,8 @@ use Rattle.graphs.specs.declared.Built.{Built}
 use Rattle.graphs.specs.Records.{node, nodeAt}
 use Rattle.graphs.specs.Graph.{Standing}
 use Rattle.graphs.specs.Build.{Result, build, refusal, buildAnswer}
-use Rattle.generated.specs.Machine.{Generated, waitingValue, generatedStep}
+use Rattle.generated.specs.declared.Generated.{Generated}
+use Rattle.generated.specs.Machine.{waitingValue, generatedStep}
 
 -- how many numbers are lent for the nodes and edges of each thread
 pub record Rooms : Type 0 where
