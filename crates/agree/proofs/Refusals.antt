@@ -32,8 +32,8 @@ use Rattle.runs.specs.Run.{Stand, badThreads, Bad, firstBad, threadsRefused, en
 use Rattle.runs.specs.Start.{Start, tableOf}
 use Rattle.runs.specs.Shown.{zeroState}
 use Rattle.buffered.specs.RunBuffered.{BufferedResult, standBuffered, resultBuffered, runBuffered}
-use Rattle.generated.specs.RunGenerated.{Rooms, nodeRoom, edgeRoom, roomsAfter, GeneratedResult, standGenerated, resultGenerated, threadRefusal, runGenerated}
-use Rattle.agree.specs.Demands.{Demand1, GivenRun, Demand1Buffered, Demand1Generated}
+use Rattle.generated.specs.RunGenerated.{Rooms, nodeRoom, edgeRoom, builtFor, roomsAfter, GeneratedResult, standGenerated, resultGenerated, threadRefusal, runGenerated}
+use Rattle.agree.specs.Demands.{Demand1, GivenRun, Demand1Buffered, Demand1Generated, Demand1Rooms}
 
 -- The builder.
 
@@ -239,10 +239,17 @@ module _ (s : Start) where
     zeroed = λ t r e. ap (λ (x : BufferedResult). x .state) (buffered-refused (bad t r) (buffered-iff t r .0 e));
   }
 
--- rooms of no threads are zero
-no-rooms : (room : ℕ → ℕ) (table : ℕ → List ℕ) (k : ℕ) → k < mostThreads → getD (roomsAfter room table 0) k [] ≡ zeros (room k)
-unfolding roomsAfter
-no-rooms room table k h = collect-at (λ t. cond (ltb t 0) (table t) (zeros (room t))) [] 0 mostThreads k h ∙ rw (zero-add, lt-false k 0 (omega arith))
+-- a room after the run: its graph, or zero beyond the count
+module _ (room : ℕ → ℕ) (table : ℕ → List ℕ) (count k : ℕ) (h : k < mostThreads) where
+  room-at : getD (roomsAfter room table count) k [] ≡ cond (ltb k count) (table k) (zeros (room k))
+  unfolding roomsAfter
+  room-at = collect-at (λ t. cond (ltb t count) (table t) (zeros (room t))) [] 0 mostThreads k h ∙ rw zero-add
+
+  room-kept : k < count → getD (roomsAfter room table count) k [] ≡ table k
+  room-kept l = room-at ∙ rw (lt-true k count l)
+
+  room-zero : count ≤ k → getD (roomsAfter room table count) k [] ≡ zeros (room k)
+  room-zero l = room-at ∙ rw (lt-false k count l)
 
 module _ (s : Start) (rooms : Rooms) where
   abbrev badGenerated : Option Bad
@@ -276,5 +283,23 @@ module _ (s : Start) (rooms : Rooms) where
   pub demand1-generated : Demand1Generated s rooms
   demand1-generated = record {
     refused = λ t r. Iff·trans (generated-iff t r) (bad-iff (threadRefusal s rooms) (s .count) (λ k. GivenBuild (s .model) (tableOf s k) (nodeRoom rooms k) (edgeRoom rooms k)) thread-given t r);
-    zeroed = λ t r e. rw (generated-refused (bad t r) (generated-iff t r .0 e)) (refl, λ k h. (no-rooms (nodeRoom rooms) (λ t. []) k h, no-rooms (edgeRoom rooms) (λ t. []) k h));
+    zeroed = λ t r e. rw (generated-refused (bad t r) (generated-iff t r .0 e)) (refl, λ k h. (room-zero (nodeRoom rooms) (λ t. []) 0 k h (omega arith), room-zero (edgeRoom rooms) (λ t. []) 0 k h (omega arith)));
   }
+
+  -- the rooms where no thread is refused
+  generated-whole : badGenerated ≡ none → runGenerated s rooms ≡ resultGenerated s rooms (standGenerated s rooms)
+  unfolding runGenerated
+  generated-whole e = rw (e, runGenerated)
+
+  pub demand1-rooms : Demand1Rooms s rooms
+  unfolding resultGenerated
+  demand1-rooms n k h = go badGenerated refl
+    where
+      go : (o : Option Bad) → badGenerated ≡ o
+          → (k < s .count → (getD (runGenerated s rooms .nodes) k [] ≡ builtFor s rooms k .nodes) × (getD (runGenerated s rooms .edges) k [] ≡ builtFor s rooms k .edges))
+          × (s .count ≤ k → (getD (runGenerated s rooms .nodes) k [] ≡ zeros (nodeRoom rooms k)) × (getD (runGenerated s rooms .edges) k [] ≡ zeros (edgeRoom rooms k)))
+      go (some b) e = absurd (n (b .thread) (b .refusal) (generated-iff (b .thread) (b .refusal) .1 e))
+      go none e = rw (generated-whole e) (
+        λ l. (room-kept (nodeRoom rooms) (λ t. builtFor s rooms t .nodes) (s .count) k h l, room-kept (edgeRoom rooms) (λ t. builtFor s rooms t .edges) (s .count) k h l),
+        λ l. (room-zero (nodeRoom rooms) (λ t. builtFor s rooms t .nodes) (s .count) k h l, room-zero (edgeRoom rooms) (λ t. builtFor s rooms t .edges) (s .count) k h l),
+      )

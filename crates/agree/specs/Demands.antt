@@ -55,6 +55,12 @@ pub record Demand1Generated (s : Start) (rooms : Rooms) : Type 0 where
       → (runGenerated s rooms .state ≡ zeroState)
       × ((k : ℕ) → k < mostThreads → (getD (runGenerated s rooms .nodes) k [] ≡ zeros (nodeRoom rooms k)) × (getD (runGenerated s rooms .edges) k [] ≡ zeros (edgeRoom rooms k)))
 
+-- the eight rooms where no thread is refused, at 15 too: the graphs stay, "rooms beyond it become zero"
+abbrev pub Demand1Rooms : Start → Rooms → Type 0
+Demand1Rooms s rooms = ((t : ℕ) (r : Refusal) → runGenerated s rooms .ended ≡ E.Refused t r → ⊥) → (k : ℕ) → k < mostThreads
+    → (k < s .count → (getD (runGenerated s rooms .nodes) k [] ≡ builtFor s rooms k .nodes) × (getD (runGenerated s rooms .edges) k [] ≡ builtFor s rooms k .edges))
+    × (s .count ≤ k → (getD (runGenerated s rooms .nodes) k [] ≡ zeros (nodeRoom rooms k)) × (getD (runGenerated s rooms .edges) k [] ≡ zeros (edgeRoom rooms k)))
+
 -- 2. "The table built is THE store buffer graph: every reachable node, every edge, no others, numbered in one way."
 abbrev pub Demand2 : ℕ → List ℕ → ℕ → ℕ → Type 0
 Demand2 m t nodes edges = (n e : ℕ) → build m t nodes edges .answer ≡ B.Graph n e → TheGraph (modelOf m) (instrAt t) n e (build m t nodes edges .nodes) (build m t nodes edges .edges)
@@ -102,6 +108,7 @@ pub record AllDemands : Type 0 where
   pub refusals : (m : ℕ) (t : List ℕ) (nodes edges : ℕ) → Demand1 m t nodes edges
   pub refusals-buffered : (s : Start) → Demand1Buffered s
   pub refusals-generated : (s : Start) (rooms : Rooms) → Demand1Generated s rooms
+  pub rooms : (s : Start) (rooms : Rooms) → Demand1Rooms s rooms
   pub graphs : (m : ℕ) (t : List ℕ) (nodes edges : ℕ) → Demand2 m t nodes edges
   pub loops : (m : ℕ) (t : List ℕ) → Demand2Loops m t
   pub runs : (s : Start) (rooms : Rooms) → Demand3 s rooms

@@ -1,8 +1,8 @@
 -- What the paper says of a buffered thread's steps, as laws.
 use mathlib.Core.Path.{_≡_, refl}
-use mathlib.Core.Bool.{true, false}
+use mathlib.Core.Bool.{Bool, true, false, _&&_}
 use mathlib.Core.Option.{Option, none, some}
-use Prim.Native.Nat.{ℕ, suc}
+use Prim.Native.Nat.{ℕ, zero, suc}
 use mathlib.Core.List.{List, [], _∷_}
 use lib.ListN.{set}
 use lib.Dec.{eqb}
@@ -13,9 +13,9 @@ use Rattle.thread.specs.declared.Instr.{Instr}
 use Rattle.thread.specs.declared.Instr.the-variants as I
 use Rattle.thread.specs.Numbers.{_!_, zeros}
 use Rattle.thread.specs.Table.{line, next, Prog}
-use Rattle.waiting.specs.Discipline.{newest}
+use Rattle.waiting.specs.Discipline.{drained, newest, readyFor}
 use Rattle.runs.specs.Run.{In}
-use Rattle.buffered.specs.Machine.{Pair, varOf, Buffered, at, seen, programStep, bufferedStep}
+use Rattle.buffered.specs.Machine.{Pair, varOf, Buffered, at, seen, programStep, bufferedStep, isReturn, hasEnded}
 
 module _ (m : Model) (M : List ℕ) (l : Line) (R : List ℕ) where
   -- "passes when nothing waits"
@@ -50,6 +50,34 @@ module _ (m : Model) (M : List ℕ) (l : Line) (R : List ℕ) where
   pub load-memory : (r x : ℕ) (w : List Pair) → newest varOf w x ≡ none → programStep m (I.Load r x) M l R w ≡ at M (next l) (set R r (M ! x)) w
   unfolding programStep seen
   load-memory r x w e = rw e
+
+-- "the thread has ended once nothing waits": it then has no choice left
+is-return : (i : Instr) → isReturn i ≡ true → i ≡ I.Return
+unfolding isReturn
+is-return (I.Set r v) e = cc
+is-return (I.Copy r s) e = cc
+is-return (I.Add r s t) e = cc
+is-return (I.Sub r s t) e = cc
+is-return (I.Load r x) e = cc
+is-return (I.StoreR x r) e = cc
+is-return (I.StoreC x v) e = cc
+is-return I.Fence e = cc
+is-return (I.Cas r x s t) e = cc
+is-return (I.Branch r to) e = cc
+is-return (I.Jump to) e = cc
+is-return I.Return e = refl
+
+nothing-waits : (b : Bool) (w : List Pair) → b && drained w true false ≡ true → (b ≡ true) × (w ≡ [])
+unfolding drained
+nothing-waits true [] e = (refl, refl)
+nothing-waits true (p ∷ w) e = (refl, cc)
+nothing-waits false w e = (e, cc)
+
+pub ended-stays : (m : Model) (prog : Prog) (c : ℕ) (s : In Buffered) → hasEnded prog (s .own .line) (s .own .waiting) ≡ true → bufferedStep m prog c s ≡ none
+unfolding hasEnded bufferedStep programStep readyFor
+ended-stays m prog zero s e = let h = nothing-waits (isReturn (prog (s .own .line))) (s .own .waiting) e in rw (is-return (prog (s .own .line)) (h .0))
+ended-stays Tso prog (suc x) s e = let h = nothing-waits (isReturn (prog (s .own .line))) (s .own .waiting) e in rw (h .1)
+ended-stays Pso prog (suc x) s e = let h = nothing-waits (isReturn (prog (s .own .line))) (s .own .waiting) e in rw (h .1)
 
 -- "Reading the register when the store reaches memory" is shut out: what waits is the register's value at the store. `storer 0 0` with 3 in the register, then `set 0 5`, then the put.
 stepped : Model → Option (In Buffered) → ℕ → Prog → Option (In Buffered)
