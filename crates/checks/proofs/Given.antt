@@ -71,7 +71,7 @@ module _ (t : List ℕ) where
       let h : length t ≢ 0 = λ q. when-silent (eqb (length t) 0) R.NoLines e (rw q tt) in
       omega (arith, whole-lines g)
 
-  inside-lines : badTarget t ≡ none → noNext t ≡ none → Stays (follows (instrAt t)) (linesOf t)
+  pub inside-lines : badTarget t ≡ none → noNext t ≡ none → Stays (follows (instrAt t)) (linesOf t)
   unfolding badTarget noNext follows
   inside-lines e g l h = after-stays n l (instrAt t l) (lowest-silent R.BadTarget (λ l. wrongTarget n (instrAt t l)) n e l h) (λ o. goes o (decLt (l .0 + 1) n))
     where
