@@ -1,0 +1,4 @@
+pub mod Search
+pub mod Records
+pub mod Writing
+pub mod Reading

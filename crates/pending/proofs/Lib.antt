@@ -1,0 +1,4 @@
+pub mod Places
+pub mod Turns
+pub mod Moves
+pub mod Discipline
