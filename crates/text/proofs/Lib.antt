@@ -1,0 +1,12 @@
+pub mod Bytes
+pub mod Tables
+pub mod Lines
+pub mod Parts
+pub mod Judging
+pub mod Entries
+pub mod Answers
+pub mod Writing
+pub mod Whole
+pub mod Apart
+pub mod TextForm
+pub mod Only

@@ -1,0 +1,5 @@
+pub mod Written
+pub mod Reading
+pub mod Steps
+pub mod Read
+pub mod TextForm
