@@ -2,6 +2,7 @@
 ghost use mathlib.Core.Path.{_≡_};
 ghost use Rattle.thread.specs.Numbers.{_!_};
 ghost use Rattle.thread.specs.Operation.{opNumbers};
+ghost use Rattle.thread.specs.Refusal.{numberOf, placeOf};
 ghost use Rattle.thread.specs.Table.{instrOf, instrAt, isStore};
 ghost use Rattle.thread.specs.Word as Word;
 
@@ -165,5 +166,51 @@ pub fn op_numbers(op: Op) -> [u32; 5]
         Op::IfNz(r) => [10, r, 0, 0, 0],
         Op::IfZ(r) => [11, r, 0, 0, 0],
         Op::Put(x, l) => [12, x, l.0, 0, 0],
+    }
+}
+
+// a refusal's number
+pub fn number_of(refusal: Refusal) -> u64
+    ensures { λ r. ⌜ r ≡ numberOf refusal ⌝ }
+{
+    match refusal {
+        Refusal::BadText(_) => 1,
+        Refusal::BadModel => 2,
+        Refusal::NoLines => 3,
+        Refusal::TooManyLines => 4,
+        Refusal::RaggedTable => 5,
+        Refusal::BadField(_) => 6,
+        Refusal::TooManyStores(_) => 7,
+        Refusal::BadTarget(_) => 8,
+        Refusal::NoNext(_) => 9,
+        Refusal::UnfencedLoop(_) => 10,
+        Refusal::PendingFull => 11,
+        Refusal::TooManyNodes => 12,
+        Refusal::TooManyEdges => 13,
+        Refusal::BadThreads => 14,
+        Refusal::NoSuchStep(_) => 15,
+    }
+}
+
+// a refusal's place
+pub fn place_of(refusal: Refusal) -> u64
+    ensures { λ r. ⌜ r ≡ placeOf refusal ⌝ }
+{
+    match refusal {
+        Refusal::BadText(n) => n,
+        Refusal::BadField(l) => l.0 as u64,
+        Refusal::TooManyStores(l) => l.0 as u64,
+        Refusal::BadTarget(l) => l.0 as u64,
+        Refusal::NoNext(l) => l.0 as u64,
+        Refusal::UnfencedLoop(l) => l.0 as u64,
+        Refusal::NoSuchStep(i) => i,
+        Refusal::BadModel => 0,
+        Refusal::NoLines => 0,
+        Refusal::TooManyLines => 0,
+        Refusal::RaggedTable => 0,
+        Refusal::PendingFull => 0,
+        Refusal::TooManyNodes => 0,
+        Refusal::TooManyEdges => 0,
+        Refusal::BadThreads => 0,
     }
 }

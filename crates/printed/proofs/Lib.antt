@@ -1,0 +1,11 @@
+pub mod Lines
+pub mod Runs
+pub mod Fits
+pub mod Ending
+pub mod Names
+pub mod Words
+pub mod Parse
+pub mod Area
+pub mod ReadBack
+pub mod Example
+pub mod Records
