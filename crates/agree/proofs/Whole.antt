@@ -58,7 +58,7 @@ each-collect f a b k (suc n) h =
     let e : f 0 (a k) ≡ b k = rw add-zero at (h 0 (omega arith)) in
     rw (e, each-collect (λ i. f (suc i)) a b (suc k) n (λ i lt. rw (suc-add, ← add-suc) (h (suc i) (omega arith))))
 
-all-collect : {T : Type 0} (G : ℕ → T → Type 0) (a : ℕ → T) (k n : ℕ) → ((i : ℕ) → i < n → G i (a (k + i))) → Each G (collect (λ t. some (a t)) k n)
+pub all-collect : {T : Type 0} (G : ℕ → T → Type 0) (a : ℕ → T) (k n : ℕ) → ((i : ℕ) → i < n → G i (a (k + i))) → Each G (collect (λ t. some (a t)) k n)
 unfolding collect listed
 all-collect G a k zero h = tt
 all-collect G a k (suc n) h = (rw add-zero at (h 0 (omega arith)), all-collect (λ i. G (suc i)) a (suc k) n (λ i lt. rw (suc-add, ← add-suc) (h (suc i) (omega arith))))

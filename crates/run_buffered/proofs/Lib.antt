@@ -1,0 +1,4 @@
+pub mod First
+pub mod Starts
+pub mod Turns
+pub mod Agree
