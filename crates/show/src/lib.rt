@@ -2,11 +2,14 @@
 use builder::build;
 use graphs::Built;
 use pending::smaller;
-use print::{print, print_refusal};
+use print::print;
+use print::print_refusal;
 use printed::Printed;
-use text::{Reading, read};
-use thread::{Refusal, number_of, place_of};
-
+use text::Reading;
+use text::read;
+use thread::Refusal;
+use thread::number_of;
+use thread::place_of;
 ghost use mathlib.Core.Path.{_≡_};
 ghost use lib.ListN.{length};
 ghost use Rattle.printed.specs.Printed.{print'};
