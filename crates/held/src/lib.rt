@@ -1,0 +1,189 @@
+// The two forms over references: a search in a lent slice of edges, and a step of a machine behind a `&mut`. Both are thin: what
+// they do is done by functions on values.
+use edges::Named;
+use edges::Taken;
+use generated::Generated;
+use graphs::Edge;
+use thread::Line;
+use thread::Node;
+use thread::Op;
+ghost use mathlib.Core.Path.{_≡_};
+ghost use Prim.Native.Nat.{_<_};
+ghost use Rattle.generated.specs.Machine.{edgeFor};
+ghost use Rattle.edges.specs.Answers.{taken};
+ghost use Rattle.held.specs.Held.{lookOf, movedAlong, stepped};
+ghost use Rattle.held.specs.Few.{edgeOf, placed, few};
+
+// what a look at one edge says: the edge if it fits, and where to look next
+struct Look {
+    found: Taken,
+    next: usize,
+}
+
+// one generated thread with the memory
+pub struct Machine {
+    pub memory: [u32; 16],
+    pub own: Generated,
+}
+
+// a machine after a step; not ok: there was none
+pub struct Next {
+    pub m: Machine,
+    pub ok: bool,
+}
+
+// the edge at i, if it leaves the node and serves the choice: then there is nothing to look at before the end
+fn looked(e: Edge, node: Node, choice: u32, registers: [u32; 16], i: usize, end: usize) -> Look
+    requires { ⌜ i < end ⌝ }
+    ensures { λ r. ⌜ r ≡ lookOf e node choice registers i end ⌝ }
+{
+    let from = e.from;
+    let op = e.op;
+    if from.0 != node.0 {
+        return Look {
+            found: Taken::Nothing,
+            next: i + 1,
+        };
+    }
+    if edges::serves(choice, registers, op) {
+        return Look {
+            found: Taken::Along(e),
+            next: end,
+        };
+    }
+    Look {
+        found: Taken::Nothing,
+        next: i + 1,
+    }
+}
+
+// the first of the lent edges, in order, that leaves the node and serves the choice
+pub fn edge_in(edges: &[Edge], node: Node, choice: u32, registers: [u32; 16]) -> Taken
+    ensures { λ r. ⌜ r ≡ taken (edgeFor (now (edges .entry)) node choice registers) ⌝ }
+{
+    let mut found = Taken::Nothing;
+    let mut i = 0;
+    let end = edges.len();
+    while i < end {
+        let s = looked(edges[i], node, choice, registers, i, end);
+        found = s.found;
+        i = s.next;
+    }
+    found
+}
+
+// the node where a machine's thread stands
+fn node_of(m: Machine) -> Node
+    ensures { λ r. ⌜ r ≡ m .own .node ⌝ }
+{
+    let own = m.own;
+    own.node
+}
+
+// the registers of a machine's thread
+fn registers_of(m: Machine) -> [u32; 16]
+    ensures { λ r. ⌜ r ≡ m .own .registers ⌝ }
+{
+    let own = m.own;
+    own.registers
+}
+
+// a machine that goes along an edge, if one was found
+pub fn moved(m: Machine, found: Taken) -> Next
+    ensures { λ r. ⌜ r ≡ movedAlong m found ⌝ }
+{
+    let memory = m.memory;
+    let own = m.own;
+    let a = step::apply(step::change_along(found, memory, own), memory, own);
+    let after = a.memory;
+    let next = a.own;
+    Next {
+        m: Machine {
+            memory: after,
+            own: next,
+        },
+        ok: a.ok,
+    }
+}
+
+// the machine takes a choice, if the lent edges have it; else it stays as it is
+pub fn step(m: &mut Machine, edges: &[Edge], choice: u32) -> bool
+    ensures { λ r. ⌜ (now (m .exit) ≡ stepped (now (m .entry)) (now (edges .entry)) choice .m) × (r ≡ stepped (now (m .entry)) (now (edges .entry)) choice .ok) ⌝ }
+{
+    let n = node_of(*m);
+    let registers = registers_of(*m);
+    let f = edge_in(edges, n, choice, registers);
+    let s = moved(*m, f);
+    *m = s.m;
+    s.ok
+}
+
+// as `edge_in`, of few edges by value: a caller names no reference to an edge
+pub fn edge_among(table: [Edge; 8], node: Node, choice: u32, registers: [u32; 16]) -> Taken
+    ensures { λ r. ⌜ r ≡ taken (edgeFor table node choice registers) ⌝ }
+{
+    edge_in(&table, node, choice, registers)
+}
+
+// as `step`, of a machine and few edges by value: a caller names no reference to a machine
+pub fn step_among(start: Machine, table: [Edge; 8], choice: u32) -> Next
+    ensures { λ r. ⌜ r ≡ stepped start table choice ⌝ }
+{
+    let mut m = start;
+    let ok = step(&mut m, &table, choice);
+    Next { m, ok }
+}
+
+// record k of a flat table as an edge, if it is one
+pub fn edge_of(table: &[u32], k: usize) -> Taken
+    ensures { λ r. ⌜ r ≡ taken (edgeOf (now (table .entry)) k) ⌝ }
+{
+    if table.len() / edges::EDGE_WIDTH <= k {
+        return Taken::Nothing;
+    }
+    let i = edges::EDGE_WIDTH * k;
+    let Named::Is(op) = edges::op_of(
+        table[i + 2],
+        table[i + 3],
+        table[i + 4],
+        table[i + 5],
+        table[i + 6],
+    ) else {
+        return Taken::Nothing;
+    };
+    Taken::Along(Edge {
+        from: Node(table[i]),
+        to: Node(table[i + 1]),
+        op,
+    })
+}
+
+// record k as an edge; where there is none, one that serves no choice
+fn placed(table: &[u32], k: usize) -> Edge
+    ensures { λ r. ⌜ r ≡ placed (now (table .entry)) k ⌝ }
+{
+    let Taken::Along(e) = edge_of(table, k) else {
+        return Edge {
+            from: Node(0),
+            to: Node(0),
+            op: Op::Put(4294967295, Line(0)),
+        };
+    };
+    e
+}
+
+// the edges of a flat table's first eight records
+pub fn few(table: &[u32]) -> [Edge; 8]
+    ensures { λ r. ⌜ r ≡ few (now (table .entry)) ⌝ }
+{
+    [
+        placed(table, 0),
+        placed(table, 1),
+        placed(table, 2),
+        placed(table, 3),
+        placed(table, 4),
+        placed(table, 5),
+        placed(table, 6),
+        placed(table, 7),
+    ]
+}
