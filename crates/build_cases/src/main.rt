@@ -1,40 +1,9 @@
 // The known answers that are run: number, place, nodes and edges of each, one line a case.
 use builder::build;
 use graphs::Built;
-use thread::Refusal;
+use thread::number_of;
+use thread::place_of;
 ghost use Prim.Native.Nat.{_≤_};
-
-fn number_of(refusal: Refusal) -> u64 {
-    match refusal {
-        Refusal::BadText(_) => 1,
-        Refusal::BadModel => 2,
-        Refusal::NoLines => 3,
-        Refusal::TooManyLines => 4,
-        Refusal::RaggedTable => 5,
-        Refusal::BadField(_) => 6,
-        Refusal::TooManyStores(_) => 7,
-        Refusal::BadTarget(_) => 8,
-        Refusal::NoNext(_) => 9,
-        Refusal::UnfencedLoop(_) => 10,
-        Refusal::PendingFull => 11,
-        Refusal::TooManyNodes => 12,
-        Refusal::TooManyEdges => 13,
-        Refusal::BadThreads => 14,
-        Refusal::NoSuchStep(_) => 15,
-    }
-}
-
-// the line that a refusal names, or 0
-fn place_of(refusal: Refusal) -> u64 {
-    match refusal {
-        Refusal::BadField(l) => l.0 as u64,
-        Refusal::TooManyStores(l) => l.0 as u64,
-        Refusal::BadTarget(l) => l.0 as u64,
-        Refusal::NoNext(l) => l.0 as u64,
-        Refusal::UnfencedLoop(l) => l.0 as u64,
-        _ => 0,
-    }
-}
 
 fn print(number: u64, place: u64, nodes: u64, edges: u64) {
     io::print_decimal(1, number);
