@@ -1,0 +1,5 @@
+pub mod Sixteen
+pub mod Going
+pub mod Rooms
+pub mod States
+pub mod Whole

@@ -1,0 +1,91 @@
+-- `refuse` clears all eight rooms, and shows zeros.
+use mathlib.Core.List.{[], _∷_}
+use lib.ListN.{length, getD}
+use Rattle.thread.specs.Numbers.{zeros}
+use Rattle.run_generated.proofs.Rooms.{same-four}
+use borrow.Author.Needs.{needs}
+use Rattle.run_generated.proofs.refuse.Statement.{statement}
+use Rattle.run_generated.proofs.refuse.Tie as tie
+
+clear-requires : tie.Need-clear-requires
+clear-requires c κs = search needs
+
+clear-requires-2 : tie.Need-clear-requires-2
+clear-requires-2 c κs = search needs
+
+clear-requires-3 : tie.Need-clear-requires-3
+clear-requires-3 c κs = search needs
+
+clear-requires-4 : tie.Need-clear-requires-4
+clear-requires-4 c κs = search needs
+
+clear-requires-5 : tie.Need-clear-requires-5
+clear-requires-5 c κs = search needs
+
+clear-requires-6 : tie.Need-clear-requires-6
+clear-requires-6 c κs = search needs
+
+clear-requires-7 : tie.Need-clear-requires-7
+clear-requires-7 c κs = search needs
+
+clear-requires-8 : tie.Need-clear-requires-8
+clear-requires-8 c κs = search needs
+
+nobody-requires : tie.Need-nobody-requires
+nobody-requires c κs = search needs
+
+same-length : tie.Need-same-length
+same-length c = c .before .before .before .before .before .before .before .before .before .before .before .before .before .before .before .before .before .before .before .before .before .before .before .before .before .before .before .before .before .before .before .clear .kept .0
+
+same-length-2 : tie.Need-same-length-2
+same-length-2 c = c .before .before .before .before .before .before .before .before .before .before .before .before .before .before .before .before .before .before .before .before .before .before .before .before .before .before .before .clear2 .kept .0
+
+same-length-3 : tie.Need-same-length-3
+same-length-3 c = c .before .before .before .before .before .before .before .before .before .before .before .before .before .before .before .before .before .before .before .before .before .before .before .clear3 .kept .0
+
+same-length-4 : tie.Need-same-length-4
+same-length-4 c = c .before .before .before .before .before .before .before .before .before .before .before .before .before .before .before .before .before .before .before .clear4 .kept .0
+
+same-length-5 : tie.Need-same-length-5
+same-length-5 c = c .before .before .before .before .before .before .before .before .before .before .before .before .before .before .before .clear5 .kept .0
+
+same-length-6 : tie.Need-same-length-6
+same-length-6 c = c .before .before .before .before .before .before .before .before .before .before .before .clear6 .kept .0
+
+same-length-7 : tie.Need-same-length-7
+same-length-7 c = c .before .before .before .before .before .before .before .clear7 .kept .0
+
+same-length-8 : tie.Need-same-length-8
+same-length-8 c = c .before .before .before .clear8 .kept .0
+
+returns : tie.Need-returns
+returns c =
+    let a = c .before .before .before .before .before .before .before .before .before .before .before .before .before .before .before .before .before .before .before .before .before .before .before .before .before .before .before .before .before .before .before .before .before .before .before .before .before .before .before .before .before .args in
+    record {
+      ran = rw (c .nobody .ensures);
+      nodes = same-four (λ t. zeros (length (getD (a .n0 .now ∷ a .n1 .now ∷ a .n2 .now ∷ a .n3 .now ∷ []) t []))) (c .before .before .before .before .before .before .before .before .before .before .before .before .before .before .before .before .before .before .before .before .before .before .before .before .before .before .before .before .before .before .before .clear .ensures) (c .before .before .before .before .before .before .before .before .before .before .before .before .before .before .before .before .before .before .before .before .before .before .before .clear3 .ensures) (c .before .before .before .before .before .before .before .before .before .before .before .before .before .before .before .clear5 .ensures) (c .before .before .before .before .before .before .before .clear7 .ensures);
+      edges = same-four (λ t. zeros (length (getD (a .e0 .now ∷ a .e1 .now ∷ a .e2 .now ∷ a .e3 .now ∷ []) t []))) (c .before .before .before .before .before .before .before .before .before .before .before .before .before .before .before .before .before .before .before .before .before .before .before .before .before .before .before .clear2 .ensures) (c .before .before .before .before .before .before .before .before .before .before .before .before .before .before .before .before .before .before .before .clear4 .ensures) (c .before .before .before .before .before .before .before .before .before .before .before .clear6 .ensures) (c .before .before .before .clear8 .ensures);
+    }
+
+pub refuse-spec : {M : Type 1} → statement M
+refuse-spec =
+    tie.close
+    (tie.spec
+    clear-requires
+    clear-requires-2
+    clear-requires-3
+    clear-requires-4
+    clear-requires-5
+    clear-requires-6
+    clear-requires-7
+    clear-requires-8
+    nobody-requires
+    same-length
+    same-length-2
+    same-length-3
+    same-length-4
+    same-length-5
+    same-length-6
+    same-length-7
+    same-length-8
+    returns)

@@ -1,0 +1,4 @@
+pub mod Threads
+pub mod States
+pub mod Graphs
+pub mod Ran
