@@ -9,17 +9,15 @@ use Rattle.runs.specs.Start.{Start}
 use Rattle.runs.specs.Shown.{ShownThread, nobody}
 use Rattle.buffered.specs.RunBuffered.{BufferedResult, runBuffered}
 use Rattle.generated.specs.RunGenerated.{Rooms, GeneratedResult, runGenerated}
-use Rattle.buffer.specs.declared.Core.{Core}
 use Rattle.shown.specs.declared.ThreadState.{ThreadState}
 use Rattle.shown.specs.declared.Ran.{Ran}
 use Rattle.shown.specs.Ran.{startOf, threadState, ranOf}
-use Rattle.run_buffered.specs.declared.Ran.{Ran as BufferedRan}
-use Rattle.run_buffered.specs.Ran.{ranOf as bufferedRan, coreShown}
+use Rattle.run_buffered.specs.Ran.{bufferedRan}
 use Rattle.run_generated.specs.Graphs.{roomsOf}
 use Rattle.run_generated.specs.Ran.{Runs}
 use Rattle.agree.specs.Demands.{AllAccepted, SameThread, Agree}
 use Rattle.agree.proofs.Whole.{demand3}
-use Rattle.both.specs.Returned.{ofCore, ofState, ReturnedAgree, BothRun}
+use Rattle.both.specs.Returned.{ofState, ReturnedAgree, BothRun}
 
 module _ (model count : ℕ) (tables : List (List ℕ)) (memory registers schedule : List ℕ) (nodes edges : List (List ℕ)) where
   abbrev s : Start
@@ -33,11 +31,11 @@ module _ (model count : ℕ) (tables : List (List ℕ)) (memory registers schedu
     ended = a .ended;
     memory = a .memory;
     threads = λ t h.
-        let p = List·getD-map coreShown (runBuffered s .state .threads) t nobody in
+        let p = List·getD-map threadState (runBuffered s .state .threads) t nobody in
         let q = List·getD-map threadState (runGenerated s rooms .state .threads) t nobody in
         rw (p, q) (a .threads t h);
   }
 
-  pub both-run : {nodes′ edges′ : List (List ℕ)} {b : BufferedRan} {g : Ran} → b ≡ bufferedRan (runBuffered s) → Runs (runGenerated s rooms) nodes′ edges′ g
+  pub both-run : {nodes′ edges′ : List (List ℕ)} {b g : Ran} → b ≡ bufferedRan (runBuffered s) → Runs (runGenerated s rooms) nodes′ edges′ g
       → BothRun model count tables memory registers schedule nodes edges nodes′ edges′ b g
   both-run e r = record { buffered = e; generated = r; agree = λ a. rw (e, r .ran) (shown-agree (demand3 s rooms a .0)) }

@@ -3,7 +3,7 @@ ghost use mathlib.Core.List.{[], _∷_};
 ghost use Rattle.both.specs.Returned.{BothRun};
 
 pub struct TwoRuns {
-    pub buffered: run_buffered::Ran,
+    pub buffered: shown::Ran,
     pub generated: shown::Ran,
 }
 

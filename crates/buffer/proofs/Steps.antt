@@ -29,7 +29,7 @@ use Rattle.pending.proofs.Discipline.{map-put, map-left}
 use Rattle.buffer.specs.declared.Change.{Change}
 use Rattle.buffer.specs.declared.Change.the-variants as C
 use Rattle.buffer.specs.declared.Moved.{Moved}
-use Rattle.buffer.specs.Core.{valOf, pairs, bufferedOf, coreOf, stays, moves, withPair, withoutPair}
+use Rattle.buffer.specs.States.{valOf, pairs, bufferedOf, coreOf, stays, moves, withPair, withoutPair}
 use Rattle.buffer.specs.Step.{following, waitingVars, seenBy, drainedChange, programChange, putChange, decided, waits, puts, applied, stepped}
 use Rattle.buffer.proofs.Cases.{waits-full, waits-room, puts-pair}
 use Rattle.buffer.proofs.Filled.{filled-taken, filled-at, put-filled, take-filled}
@@ -100,15 +100,15 @@ module _ (m : Model) (M : List ℕ) (b : Buffered) (few : length (b .waiting) �
   unfolding coreOf
   vars-are = vars-taken w few
 
-  core-len : length w < 16 → coreOf b .len < 16
+  core-len : length w < 16 → coreOf b .count < 16
   unfolding coreOf
   core-len h = h
 
-  core-full : 16 ≤ length w → 16 ≤ coreOf b .len
+  core-full : 16 ≤ length w → 16 ≤ coreOf b .count
   unfolding coreOf
   core-full h = h
 
-  seen-at : (x : ℕ) (o : Option ℕ) → Holds (λ i. i < length (map varOf w)) o → Option·elim o (M ! x) (λ i. coreOf b .vals ! i) ≡ seen M x (Option·map (λ i. getD w i nothing) o)
+  seen-at : (x : ℕ) (o : Option ℕ) → Holds (λ i. i < length (map varOf w)) o → Option·elim o (M ! x) (λ i. coreOf b .values ! i) ≡ seen M x (Option·map (λ i. getD w i nothing) o)
   unfolding coreOf seen Option·elim
   seen-at x none h = refl
   seen-at x (some i) h = at-place w few valOf refl i (rw length-map at h)
@@ -116,7 +116,7 @@ module _ (m : Model) (M : List ℕ) (b : Buffered) (few : length (b .waiting) �
   seen-is : (x : ℕ) → seenBy M (coreOf b) x ≡ seen M x (newest varOf w x)
   unfolding seenBy
   seen-is x =
-      ap (λ (vs : List ℕ). Option·elim (lastFor vs x) (M ! x) (λ i. coreOf b .vals ! i)) vars-are
+      ap (λ (vs : List ℕ). Option·elim (lastFor vs x) (M ! x) (λ i. coreOf b .values ! i)) vars-are
       ∙ seen-at x (lastFor (map varOf w) x) (last-lt (map varOf w) x)
       ∙ ap (seen M x) (sym (newest-place varOf nothing w x))
 
@@ -136,12 +136,12 @@ module _ (m : Model) (M : List ℕ) (b : Buffered) (few : length (b .waiting) �
         let xs = more-place w few varOf place p place-in room in
         let vs = more-place w few valOf place p place-in room in
         let n = sym (more-length w few place p place-in) in
-        λ i. record { line = l; registers = b .registers; vars = xs i; vals = vs i; len = n i }
+        λ i. record { line = l; registers = b .registers; names = xs i; values = vs i; count = n i }
 
     waits-there : length w < 16 → waits m M (coreOf b) l (p .var) (p .val) ≡ moves M (withPair (coreOf b) l place (p .var) (p .val))
     unfolding withPair
     waits-there room =
-        sym (waits-room m M (coreOf b) l (p .var) (p .val) (core-len room) place (ap (λ (vs : List ℕ). placeFor m vs (p .var)) (sym vars-are)) (putIn place (p .var) (coreOf b .vars)) (putIn place (p .val) (coreOf b .vals)) refl refl)
+        sym (waits-room m M (coreOf b) l (p .var) (p .val) (core-len room) place (ap (λ (vs : List ℕ). placeFor m vs (p .var)) (sym vars-are)) (putIn place (p .var) (coreOf b .names)) (putIn place (p .val) (coreOf b .values)) refl refl)
 
     waits-more : Dec (length w < 16) → waits m M (coreOf b) l (p .var) (p .val) ≡ movedOf M b (fitting 16 (some (record { memory = M; own = more })))
     unfolding fitting movedOf
@@ -167,17 +167,17 @@ module _ (m : Model) (M : List ℕ) (b : Buffered) (few : length (b .waiting) �
         let xs = less-place w few varOf i h in
         let vs = less-place w few valOf i h in
         let n = sym (less-length w few i h) in
-        λ j. record { line = b .line; registers = b .registers; vars = xs j; vals = vs j; len = n j }
+        λ j. record { line = b .line; registers = b .registers; names = xs j; values = vs j; count = n j }
 
-    core-in : i < min (length w) 16 → i < min (coreOf b .len) 16
+    core-in : i < min (length w) 16 → i < min (coreOf b .count) 16
     unfolding coreOf
     core-in g = g
 
-    core-var : coreOf b .vars ! i ≡ getD w i nothing .var
+    core-var : coreOf b .names ! i ≡ getD w i nothing .var
     unfolding coreOf
     core-var = at-place w few varOf refl i h
 
-    core-val : coreOf b .vals ! i ≡ getD w i nothing .val
+    core-val : coreOf b .values ! i ≡ getD w i nothing .val
     unfolding coreOf
     core-val = at-place w few valOf refl i h
 
@@ -186,7 +186,7 @@ module _ (m : Model) (M : List ℕ) (b : Buffered) (few : length (b .waiting) �
     puts-is =
         let e : leb (length (take i w ++ drop (suc i) w)) 16 ≡ true = le-true (length (take i w ++ drop (suc i) w)) 16 (rw (less-length w few i h) (omega arith)) in
         let g : i < min (length w) 16 = omega arith in
-        let core = sym (puts-pair M (coreOf b) i (core-in g) (takeOut i 0 (coreOf b .vars)) (takeOut i 0 (coreOf b .vals)) (set M (getD w i nothing .var) (getD w i nothing .val)) (getD w i nothing .var) (getD w i nothing .val) refl refl (sym core-var) (sym core-val) refl) in
+        let core = sym (puts-pair M (coreOf b) i (core-in g) (takeOut i 0 (coreOf b .names)) (takeOut i 0 (coreOf b .values)) (set M (getD w i nothing .var) (getD w i nothing .val)) (getD w i nothing .var) (getD w i nothing .val) refl refl (sym core-var) (sym core-val) refl) in
         rw e (core ∙ ap (moves (set M (getD w i nothing .var) (getD w i nothing .val))) less-core)
 
   put-at : (o : Option ℕ) → Holds (λ i. i < length (map varOf w)) o

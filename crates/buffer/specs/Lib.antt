@@ -1,2 +1,2 @@
-pub mod Core
+pub mod States
 pub mod Step

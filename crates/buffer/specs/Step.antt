@@ -14,11 +14,11 @@ use Rattle.thread.specs.Word.{add32, sub32}
 use Rattle.thread.specs.Numbers.{_!_}
 use Rattle.thread.specs.Table.{line}
 use Rattle.pending.specs.Places.{placeFor, lastFor, readyAt}
-use Rattle.buffer.specs.declared.Core.{Core}
+use Rattle.shown.specs.declared.ThreadState.{ThreadState}
 use Rattle.buffer.specs.declared.Change.{Change}
 use Rattle.buffer.specs.declared.Change.the-variants as C
 use Rattle.buffer.specs.declared.Moved.{Moved}
-use Rattle.buffer.specs.Core.{stays, moves, atLine, withRegister, withPair, withoutPair}
+use Rattle.buffer.specs.States.{stays, moves, atLine, withRegister, withPair, withoutPair}
 
 -- the next line; behind line 2^32 - 1 comes line 0
 unfoldable pub following : Line → Line
@@ -26,20 +26,20 @@ unfolding add32
 following l = line (add32 (l .0) 1)
 
 -- the variables of the pairs that wait
-abbrev pub waitingVars : Core → List ℕ
-waitingVars c = take (c .len) (c .vars)
+abbrev pub waitingVars : ThreadState → List ℕ
+waitingVars c = take (c .count) (c .names)
 
 -- "A load takes the newest waiting value for its variable, else memory"
-unfoldable pub seenBy : List ℕ → Core → ℕ → ℕ
+unfoldable pub seenBy : List ℕ → ThreadState → ℕ → ℕ
 unfolding lastFor Option·elim
-seenBy M c x = Option·elim (lastFor (waitingVars c) x) (M ! x) (λ i. c .vals ! i)
+seenBy M c x = Option·elim (lastFor (waitingVars c) x) (M ! x) (λ i. c .values ! i)
 
 -- "passes when nothing waits"
-abbrev pub drainedChange : Core → Change → Change
-drainedChange c d = cond (eqb (c .len) 0) d C.Nothing
+abbrev pub drainedChange : ThreadState → Change → Change
+drainedChange c d = cond (eqb (c .count) 0) d C.Nothing
 
 -- what the program step changes
-unfoldable pub programChange : Instr → List ℕ → Core → Change
+unfoldable pub programChange : Instr → List ℕ → ThreadState → Change
 unfolding following seenBy add32 sub32
 programChange (I.Set r v) M c = C.Register (following (c .line)) r v
 programChange (I.Copy r s) M c = C.Register (following (c .line)) r (c .registers ! s)
@@ -57,28 +57,28 @@ programChange (I.Jump to) M c = C.Go to
 programChange I.Return M c = C.Nothing
 
 -- which pair the waiting store to x is
-unfoldable pub putChange : Model → ℕ → Core → Change
+unfoldable pub putChange : Model → ℕ → ThreadState → Change
 unfolding readyAt Option·elim
 putChange m x c = Option·elim (readyAt m (waitingVars c) x) C.Nothing C.Put
 
 -- choice 0 is the program step, 1 + x the waiting store to x reaching memory
-unfoldable pub decided : Model → Instr → ℕ → List ℕ → Core → Change
+unfoldable pub decided : Model → Instr → ℕ → List ℕ → ThreadState → Change
 unfolding programChange putChange
 decided m i zero M c = programChange i M c
 decided m i (suc x) M c = putChange m x c
 
 -- a pair more waits, if there is a place for it
-unfoldable pub waits : Model → List ℕ → Core → Line → ℕ → ℕ → Moved
+unfoldable pub waits : Model → List ℕ → ThreadState → Line → ℕ → ℕ → Moved
 unfolding placeFor withPair
-waits m M c l x v = cond (ltb (c .len) mostWaiting) (moves M (withPair c l (placeFor m (waitingVars c) x) x v)) (stays M c)
+waits m M c l x v = cond (ltb (c .count) mostWaiting) (moves M (withPair c l (placeFor m (waitingVars c) x) x v)) (stays M c)
 
 -- the pair at place i reaches memory, if one waits there
-unfoldable pub puts : List ℕ → Core → ℕ → Moved
+unfoldable pub puts : List ℕ → ThreadState → ℕ → Moved
 unfolding withoutPair
-puts M c i = cond (ltb i (min (c .len) mostWaiting)) (moves (set M (c .vars ! i) (c .vals ! i)) (withoutPair c i)) (stays M c)
+puts M c i = cond (ltb i (min (c .count) mostWaiting)) (moves (set M (c .names ! i) (c .values ! i)) (withoutPair c i)) (stays M c)
 
 -- the change made
-unfoldable pub applied : Change → Model → List ℕ → Core → Moved
+unfoldable pub applied : Change → Model → List ℕ → ThreadState → Moved
 unfolding waits puts
 applied C.Nothing m M c = stays M c
 applied (C.Go l) m M c = moves M (atLine c l)
@@ -88,6 +88,6 @@ applied (C.Swap l r x v) m M c = moves (set M x v) (withRegister c l r 1)
 applied (C.Put i) m M c = puts M c i
 
 -- one step: decide, then apply
-unfoldable pub stepped : Model → Instr → ℕ → List ℕ → Core → Moved
+unfoldable pub stepped : Model → Instr → ℕ → List ℕ → ThreadState → Moved
 unfolding decided applied
 stepped m i choice M c = applied (decided m i choice M c) m M c

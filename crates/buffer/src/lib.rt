@@ -1,5 +1,6 @@
 // One buffered thread in code: what a choice changes, and the change made.
 use pending::Found;
+use shown::ThreadState;
 use thread::Instr;
 use thread::Line;
 use thread::Model;
@@ -10,17 +11,8 @@ ghost use lib.ListN.{set};
 ghost use lib.Dec.{eqb};
 ghost use Rattle.thread.specs.Numbers.{_!_};
 ghost use Rattle.pending.specs.Pending.{putIn, takeOut};
-ghost use Rattle.buffer.specs.Core.{atLine, withRegister};
+ghost use Rattle.buffer.specs.States.{atLine, withRegister};
 ghost use Rattle.buffer.specs.Step.{following, seenBy, programChange, putChange, decided, waits, puts, applied, stepped};
-
-// a buffered thread: the first `len` pairs of `vars` and `vals` wait, in order; unused places are 0
-pub struct Core {
-    pub line: Line,
-    pub registers: [u32; 16],
-    pub vars: [u32; 16],
-    pub vals: [u32; 16],
-    pub len: u32,
-}
 
 // what a step changes: the next line, with a register, a pair that waits, or register and memory of a cas; or the pair at a place reaches memory
 pub enum Change {
@@ -36,7 +28,7 @@ pub enum Change {
 pub struct Moved {
     pub ok: bool,
     pub memory: [u32; 16],
-    pub core: Core,
+    pub core: ThreadState,
 }
 
 // the number at a place; 0 past the end
@@ -70,26 +62,26 @@ fn if_equal(a: u32, b: u32, x: Change, y: Change) -> Change
 }
 
 // the newest waiting value for `x`, else memory
-fn seen(memory: [u32; 16], core: Core, x: u32) -> u32
+fn seen(memory: [u32; 16], core: ThreadState, x: u32) -> u32
     ensures { λ r. ⌜ r ≡ seenBy memory core x ⌝ }
 {
-    let vars = core.vars;
-    let vals = core.vals;
-    let found = pending::last_for(vars, core.len as usize, x);
+    let names = core.names;
+    let values = core.values;
+    let found = pending::last_for(names, core.count as usize, x);
     match found {
-        Found::At(i) => pick(vals, i),
+        Found::At(i) => pick(values, i),
         Found::Nothing => pick(memory, x as usize),
     }
 }
 
 // the program step
-fn program_change(instr: Instr, memory: [u32; 16], core: Core) -> Change
+fn program_change(instr: Instr, memory: [u32; 16], core: ThreadState) -> Change
     ensures { λ r. ⌜ r ≡ programChange instr memory core ⌝ }
 {
     let line = core.line;
     let on = following_line(line);
     let regs = core.registers;
-    let len = core.len;
+    let count = core.count;
     match instr {
         Instr::Set(r, v) => Change::Register(on, r, v),
         Instr::Copy(r, s) => Change::Register(on, r, pick(regs, s as usize)),
@@ -110,13 +102,13 @@ fn program_change(instr: Instr, memory: [u32; 16], core: Core) -> Change
         Instr::Load(r, x) => Change::Register(on, r, seen(memory, core, x)),
         Instr::StoreR(x, r) => Change::Wait(on, x, pick(regs, r as usize)),
         Instr::StoreC(x, v) => Change::Wait(on, x, v),
-        Instr::Fence => if_equal(len, 0, Change::Go(on), Change::Nothing),
+        Instr::Fence => if_equal(count, 0, Change::Go(on), Change::Nothing),
         Instr::Cas(r, x, s, t) => {
             let swap = Change::Swap(on, r, x, pick(regs, t as usize));
             let here = pick(memory, x as usize);
             let want = pick(regs, s as usize);
             let cas = if_equal(here, want, swap, Change::Register(on, r, 0));
-            if_equal(len, 0, cas, Change::Nothing)
+            if_equal(count, 0, cas, Change::Nothing)
         }
         Instr::Branch(r, to) => if_equal(pick(regs, r as usize), 0, Change::Go(on), Change::Go(to)),
         Instr::Jump(to) => Change::Go(to),
@@ -125,11 +117,11 @@ fn program_change(instr: Instr, memory: [u32; 16], core: Core) -> Change
 }
 
 // the waiting store to `x` reaching memory
-fn put_change(model: Model, x: u32, core: Core) -> Change
+fn put_change(model: Model, x: u32, core: ThreadState) -> Change
     ensures { λ r. ⌜ r ≡ putChange model x core ⌝ }
 {
-    let vars = core.vars;
-    let found = pending::ready_for(model, vars, core.len as usize, x);
+    let names = core.names;
+    let found = pending::ready_for(model, names, core.count as usize, x);
     match found {
         Found::At(i) => Change::Put(i),
         Found::Nothing => Change::Nothing,
@@ -137,7 +129,13 @@ fn put_change(model: Model, x: u32, core: Core) -> Change
 }
 
 // what a choice changes: 0 is the program step, 1 + x the waiting store to x reaching memory
-pub fn decide(model: Model, instr: Instr, choice: u32, memory: [u32; 16], core: Core) -> Change
+pub fn decide(
+    model: Model,
+    instr: Instr,
+    choice: u32,
+    memory: [u32; 16],
+    core: ThreadState,
+) -> Change
     ensures { λ r. ⌜ r ≡ decided model instr choice memory core ⌝ }
 {
     if choice == 0 {
@@ -179,11 +177,11 @@ fn take_out(values: [u32; 16], at: usize) -> [u32; 16]
 }
 
 // a pair more waits, if there is a place for it
-fn wait(model: Model, memory: [u32; 16], core: Core, line: Line, x: u32, v: u32) -> Moved
+fn wait(model: Model, memory: [u32; 16], core: ThreadState, line: Line, x: u32, v: u32) -> Moved
     ensures { λ r. ⌜ r ≡ waits model memory core line x v ⌝ }
 {
-    let len = core.len;
-    if 16 <= len {
+    let count = core.count;
+    if 16 <= count {
         return Moved {
             ok: false,
             memory,
@@ -191,15 +189,15 @@ fn wait(model: Model, memory: [u32; 16], core: Core, line: Line, x: u32, v: u32)
         };
     }
     let registers = core.registers;
-    let vars = core.vars;
-    let vals = core.vals;
-    let at = pending::place_for(model, vars, len as usize, x);
-    let next = Core {
+    let names = core.names;
+    let values = core.values;
+    let at = pending::place_for(model, names, count as usize, x);
+    let next = ThreadState {
         line,
         registers,
-        vars: put_in(vars, at, x),
-        vals: put_in(vals, at, v),
-        len: len + 1,
+        names: put_in(names, at, x),
+        values: put_in(values, at, v),
+        count: count + 1,
     };
     Moved {
         ok: true,
@@ -209,11 +207,11 @@ fn wait(model: Model, memory: [u32; 16], core: Core, line: Line, x: u32, v: u32)
 }
 
 // the pair at a place reaches memory, if one waits there
-fn put(memory: [u32; 16], core: Core, at: usize) -> Moved
+fn put(memory: [u32; 16], core: ThreadState, at: usize) -> Moved
     ensures { λ r. ⌜ r ≡ puts memory core at ⌝ }
 {
-    let len = core.len;
-    if pending::smaller(len as usize, 16) <= at {
+    let count = core.count;
+    if pending::smaller(count as usize, 16) <= at {
         return Moved {
             ok: false,
             memory,
@@ -222,24 +220,24 @@ fn put(memory: [u32; 16], core: Core, at: usize) -> Moved
     }
     let line = core.line;
     let registers = core.registers;
-    let vars = core.vars;
-    let vals = core.vals;
-    let next = Core {
+    let names = core.names;
+    let values = core.values;
+    let next = ThreadState {
         line,
         registers,
-        vars: take_out(vars, at),
-        vals: take_out(vals, at),
-        len: len - 1,
+        names: take_out(names, at),
+        values: take_out(values, at),
+        count: count - 1,
     };
     Moved {
         ok: true,
-        memory: replace(memory, pick(vars, at) as usize, pick(vals, at)),
+        memory: replace(memory, pick(names, at) as usize, pick(values, at)),
         core: next,
     }
 }
 
 // the thread at another line, with `v` in register `r`
-fn at_line(core: Core, line: Line) -> Core
+fn at_line(core: ThreadState, line: Line) -> ThreadState
     ensures { λ r. ⌜ r ≡ atLine core line ⌝ }
 {
     let mut next = core;
@@ -247,7 +245,7 @@ fn at_line(core: Core, line: Line) -> Core
     next
 }
 
-fn with_register(core: Core, line: Line, r: u32, v: u32) -> Core
+fn with_register(core: ThreadState, line: Line, r: u32, v: u32) -> ThreadState
     ensures { λ result. ⌜ result ≡ withRegister core line r v ⌝ }
 {
     let old = core.registers;
@@ -259,7 +257,7 @@ fn with_register(core: Core, line: Line, r: u32, v: u32) -> Core
 }
 
 // the change made
-pub fn apply(change: Change, model: Model, memory: [u32; 16], core: Core) -> Moved
+pub fn apply(change: Change, model: Model, memory: [u32; 16], core: ThreadState) -> Moved
     ensures { λ r. ⌜ r ≡ applied change model memory core ⌝ }
 {
     match change {
@@ -299,7 +297,7 @@ pub fn apply(change: Change, model: Model, memory: [u32; 16], core: Core) -> Mov
 }
 
 // one step: decide, then apply
-pub fn step(model: Model, instr: Instr, choice: u32, memory: [u32; 16], core: Core) -> Moved
+pub fn step(model: Model, instr: Instr, choice: u32, memory: [u32; 16], core: ThreadState) -> Moved
     ensures { λ r. ⌜ r ≡ stepped model instr choice memory core ⌝ }
 {
     apply(

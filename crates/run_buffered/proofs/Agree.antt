@@ -28,12 +28,13 @@ use Rattle.agree.proofs.Middle.{shows}
 use Rattle.agree.proofs.Limit.{Mirror, mirrored, never-more, never-differs}
 use Rattle.agree.proofs.Whole.{all-collect}
 use Rattle.agree.proofs.Refusals.{none-bad}
-use Rattle.buffer.specs.declared.Core.{Core}
-use Rattle.buffer.specs.Core.{valOf, coreOf}
+use Rattle.shown.specs.declared.ThreadState.{ThreadState}
+use Rattle.buffer.specs.States.{valOf, coreOf}
 use Rattle.buffer.specs.Step.{stepped}
 use Rattle.buffer.proofs.Steps.{movedOf, step-is}
-use Rattle.run_buffered.specs.Ran.{startOf, coreShown, ranOf}
-use Rattle.run_buffered.specs.Cores.{nobodyCore, startCores, world, taken, coreStep, ranStand, refusedRan}
+use Rattle.shown.specs.Ran.{startOf, threadState, nobodyState, world}
+use Rattle.run_buffered.specs.Ran.{bufferedRan}
+use Rattle.run_buffered.specs.Cores.{startCores, taken, coreStep, ranStand, refusedRan}
 use Rattle.run_buffered.proofs.Starts.{begin-cores}
 
 -- One thread that is free of 2 to 10: the code's step is the buffered step.
@@ -95,19 +96,19 @@ module _ (s : Start) (free : (t : ℕ) → t < s .count → admission (s .model)
   core-runs = same-runs (λ t b. coreOf b) Alive buffers (coreStep model (s .tables)) same-step stays-alive (items (s .schedule)) 0 (startWorld (startThread s) s) starts-alive
 
 -- What is shown.
-core-shown : (b : Buffered) → coreShown (shownBuffered b) ≡ coreOf b
+core-shown : (b : Buffered) → threadState (shownBuffered b) ≡ coreOf b
 unfolding shownBuffered shownThread coreOf
 core-shown b =
     let xs : filled mostWaiting (map nameOf (map pairShown (b .waiting))) ≡ filled mostWaiting (map varOf (b .waiting)) = ap (filled mostWaiting) (map-map nameOf pairShown (b .waiting)) in
     let vs : filled mostWaiting (map valueOf (map pairShown (b .waiting))) ≡ filled mostWaiting (map valOf (b .waiting)) = ap (filled mostWaiting) (map-map valueOf pairShown (b .waiting)) in
     let n : length (map pairShown (b .waiting)) ≡ length (b .waiting) = length-map (b .waiting) pairShown in
-    λ i. record { line = b .line; registers = b .registers; vars = xs i; vals = vs i; len = n i }
+    λ i. record { line = b .line; registers = b .registers; names = xs i; values = vs i; count = n i }
 
-shown-absent : (k : ℕ) → map coreShown (replicate k nobody) ≡ replicate k nobodyCore
+shown-absent : (k : ℕ) → map threadState (replicate k nobody) ≡ replicate k nobodyState
 shown-absent zero = refl
-shown-absent (suc k) = ap (λ (l : List Core). nobodyCore ∷ l) (shown-absent k)
+shown-absent (suc k) = ap (λ (l : List ThreadState). nobodyState ∷ l) (shown-absent k)
 
-shown-threads : (ts : List Buffered) (k : ℕ) → each (λ t b. coreOf b) ts ++ replicate k nobodyCore ≡ map coreShown (map shownBuffered ts ++ replicate k nobody)
+shown-threads : (ts : List Buffered) (k : ℕ) → each (λ t b. coreOf b) ts ++ replicate k nobodyState ≡ map threadState (map shownBuffered ts ++ replicate k nobody)
 unfolding each
 shown-threads [] k = sym (shown-absent k)
 shown-threads (b ∷ ts) k = rw (core-shown b, shown-threads ts k)
@@ -117,12 +118,12 @@ unfolding each
 each-length f [] = refl
 each-length f (a ∷ ts) = ap suc (each-length f ts)
 
-pub stand-shown : (e : Stand Buffered) → ranStand (viewStand (λ t b. coreOf b) e) ≡ ranOf (resultBuffered e)
+pub stand-shown : (e : Stand Buffered) → ranStand (viewStand (λ t b. coreOf b) e) ≡ bufferedRan (resultBuffered e)
 unfolding ranStand resultBuffered shownState endOf
 stand-shown e =
     let ts = e .world .threads in
     let k : mostThreads - length (each (λ t. coreOf) ts) ≡ mostThreads - length (map shownBuffered ts) = rw (each-length coreOf ts, length-map) in
-    let l = ap (λ (k : ℕ). each (λ t b. coreOf b) ts ++ replicate k nobodyCore) k ∙ shown-threads ts (mostThreads - length (map shownBuffered ts)) in
+    let l = ap (λ (k : ℕ). each (λ t b. coreOf b) ts ++ replicate k nobodyState) k ∙ shown-threads ts (mostThreads - length (map shownBuffered ts)) in
     λ i. record { ended = endOf e; memory = e .world .memory; threads = l i }
 
 -- The whole run.
@@ -134,16 +135,16 @@ module _ (m : ℕ) (tables : List (List ℕ)) (M all sched : List ℕ) (count : 
   refusals = threadsRefused (λ t. admission m (getD tables t [])) count
 
   -- 14, or 2 to 10
-  pub ran-refused : (t : ℕ) (r : Refusal) → refusals ≡ some (record { thread = t; refusal = r }) → refusedRan t r ≡ ranOf (runBuffered start)
+  pub ran-refused : (t : ℕ) (r : Refusal) → refusals ≡ some (record { thread = t; refusal = r }) → refusedRan t r ≡ bufferedRan (runBuffered start)
   unfolding runBuffered
   ran-refused t r e = rw (e, runBuffered)
 
   -- else the steps
-  pub ran-steps : refusals ≡ none → ranStand (run (coreStep (modelOf m) tables) (items sched) 0 (world count M (startCores count all))) ≡ ranOf (runBuffered start)
+  pub ran-steps : refusals ≡ none → ranStand (run (coreStep (modelOf m) tables) (items sched) 0 (world count M (startCores count all))) ≡ bufferedRan (runBuffered start)
   unfolding runBuffered startWorld
   ran-steps e =
       let p = none-bad (λ t. admission m (getD tables t [])) count .0 e in
-      ap (λ (ts : List Core). ranStand (run (coreStep (modelOf m) tables) (items sched) 0 (record { memory = M; threads = ts }))) (begin-cores all m tables M sched count (p .1))
+      ap (λ (ts : List ThreadState). ranStand (run (coreStep (modelOf m) tables) (items sched) 0 (record { memory = M; threads = ts }))) (begin-cores all m tables M sched count (p .1))
       ∙ ap ranStand (sym (core-runs start (p .2)))
       ∙ stand-shown (standBuffered start)
       ∙ rw (e, runBuffered)

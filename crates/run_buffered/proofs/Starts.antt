@@ -9,21 +9,21 @@ use Rattle.lists.specs.Lists.{each, listed, collect}
 use Rattle.lists.proofs.Tests.{lt-true, lt-false}
 use Rattle.thread.specs.Numbers.{filled}
 use Rattle.buffered.specs.RunBuffered.{startThread}
-use Rattle.buffer.specs.Core.{coreOf}
-use Rattle.run_buffered.specs.Ran.{cut, startOf}
-use Rattle.run_buffered.specs.Cores.{emptyCore, nobodyCore, startCore, startCores}
+use Rattle.buffer.specs.States.{coreOf}
+use Rattle.shown.specs.Ran.{cut, startOf, nobodyState}
+use Rattle.run_buffered.specs.Cores.{emptyCore, startCore, startCores}
 
 module _ (count : ℕ) (all : List ℕ) (t : ℕ) where
   pub start-present : t < count → emptyCore (cut all t) ≡ startCore count all t
   unfolding startCore
   start-present h = rw (lt-true t count h)
 
-  pub start-absent : count ≤ t → nobodyCore ≡ startCore count all t
+  pub start-absent : count ≤ t → nobodyState ≡ startCore count all t
   unfolding startCore
   start-absent h = rw (lt-false t count h)
 
 module _ (all : List ℕ) where
-  pub absent-cores : (count : ℕ) → count ≤ 4 → drop count (startCores count all) ≡ replicate (4 - count) nobodyCore
+  pub absent-cores : (count : ℕ) → count ≤ 4 → drop count (startCores count all) ≡ replicate (4 - count) nobodyState
   unfolding startCores startCore
   absent-cores zero h = refl
   absent-cores (suc zero) h = refl

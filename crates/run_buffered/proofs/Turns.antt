@@ -14,10 +14,11 @@ use Rattle.thread.specs.Table.{line, instrAt}
 use Rattle.runs.specs.declared.Ended.the-variants as E
 use Rattle.runs.specs.Run.{In, Stand, Item, items, back, takes, move, run, endOf}
 use Rattle.runs.proofs.Laws.{run-step, run-stop}
-use Rattle.buffer.specs.declared.Core.{Core}
+use Rattle.shown.specs.declared.ThreadState.{ThreadState}
 use Rattle.buffer.specs.declared.Moved.{Moved}
 use Rattle.buffer.specs.Step.{stepped}
-use Rattle.run_buffered.specs.Cores.{nobodyCore, world, taken, coreStep, ranStand}
+use Rattle.shown.specs.Ran.{nobodyState, world}
+use Rattle.run_buffered.specs.Cores.{taken, coreStep, ranStand}
 
 module _ {A : Type 0} where
   get-taken : (l : List A) (n t : ℕ) (d : A) → t < n → t < length l → getElem? (take n l) t ≡ some (getD l t d)
@@ -50,17 +51,17 @@ is-taken r e = let f : r .ok ≡ true = was-true (r .ok) e in rw f
     was-true false e = cc
 
 module _ (m : Model) (tables : List (List ℕ)) (count : ℕ) (s : List ℕ) where
-  abbrev step : ℕ → ℕ → In Core → Option (In Core)
+  abbrev step : ℕ → ℕ → In ThreadState → Option (In ThreadState)
   step = coreStep m tables
 
   -- what is left of the run from place p of the schedule on, with n items done
-  abbrev pub left : ℕ → ℕ → List ℕ → List Core → Stand Core
+  abbrev pub left : ℕ → ℕ → List ℕ → List ThreadState → Stand ThreadState
   left p n M cs = run step (items (drop p s)) n (world count M cs)
 
-  abbrev stopped : ℕ → List ℕ → List Core → Stand Core
+  abbrev stopped : ℕ → List ℕ → List ThreadState → Stand ThreadState
   stopped n M cs = record { world = world count M cs; steps = n; stopped = true }
 
-  module _ (p n : ℕ) (M : List ℕ) (cs : List Core) where
+  module _ (p n : ℕ) (M : List ℕ) (cs : List ThreadState) where
     abbrev itemAt : Item
     itemAt = record { thread = s ! p; choice = some (s ! (p + 1)) }
 
@@ -106,9 +107,9 @@ module _ (m : Model) (tables : List (List ℕ)) (count : ℕ) (s : List ℕ) whe
       pub turn-absent : count ≤ s ! p → left p n M cs ≡ stopped n M cs
       turn-absent g = stops-at (takes-nobody (s ! p) (s ! (p + 1)) g)
 
-      module _ (d : Core) (r : Moved) (present : s ! p < count) (there : s ! p < length cs)
+      module _ (d : ThreadState) (r : Moved) (present : s ! p < count) (there : s ! p < length cs)
           (e : r ≡ stepped m (instrAt (getD tables (s ! p) []) (getD cs (s ! p) d .line)) (s ! (p + 1)) M (getD cs (s ! p) d)) where
-        abbrev own : Core
+        abbrev own : ThreadState
         own = getD cs (s ! p) d
 
         stepping : takes step (world count M cs) (s ! p) (s ! (p + 1)) ≡ Option·map (back step (world count M cs) (s ! p)) (taken r)
@@ -138,26 +139,26 @@ module _ (m : Model) (tables : List (List ℕ)) (count : ℕ) (s : List ℕ) whe
     turn-end h = rw (drop-of-length-le s {i = p} h)
 
 -- what the code reads past the end of an array of threads
-abbrev pub noCore : Core
-noCore = record { line = line 0; registers = []; vars = []; vals = []; len = 0 }
+abbrev pub noCore : ThreadState
+noCore = record { line = line 0; registers = []; names = []; values = []; count = 0 }
 
 -- where the loop stands: place p of the schedule, n items done
-pub record Standing (m : Model) (tables : List (List ℕ)) (count : ℕ) (s M₀ : List ℕ) (cs₀ : List Core) (M : List ℕ) (cs : List Core) (p n : ℕ) : Type 0 where
+pub record Standing (m : Model) (tables : List (List ℕ)) (count : ℕ) (s M₀ : List ℕ) (cs₀ : List ThreadState) (M : List ℕ) (cs : List ThreadState) (p n : ℕ) : Type 0 where
   pub inside : p ≤ length s
   pub few : n ≤ p
   pub four : length cs ≡ 4
-  pub absent : drop count cs ≡ replicate (4 - count) nobodyCore
+  pub absent : drop count cs ≡ replicate (4 - count) nobodyState
   pub rest : left m tables count s 0 0 M₀ cs₀ ≡ left m tables count s p n M cs
 
 -- all four threads: those that are present, and the others
-pub all-four : (count : ℕ) (cs : List Core) → count ≤ length cs → drop count cs ≡ replicate (4 - count) nobodyCore → cs ≡ take count cs ++ replicate (4 - length (take count cs)) nobodyCore
+pub all-four : (count : ℕ) (cs : List ThreadState) → count ≤ length cs → drop count cs ≡ replicate (4 - count) nobodyState → cs ≡ take count cs ++ replicate (4 - length (take count cs)) nobodyState
 all-four count cs h e = sym (take-append-drop count cs) ∙ rw (length-take-le count cs h, ← e)
 
-module _ (count n : ℕ) (M : List ℕ) (cs : List Core) (h : count ≤ length cs) (e : drop count cs ≡ replicate (4 - count) nobodyCore) where
+module _ (count n : ℕ) (M : List ℕ) (cs : List ThreadState) (h : count ≤ length cs) (e : drop count cs ≡ replicate (4 - count) nobodyState) where
   pub ran-stopped : record { ended = E.Stopped n; memory = M; threads = cs } ≡ ranStand (record { world = world count M cs; steps = n; stopped = true })
   unfolding ranStand endOf
-  ran-stopped = ap (λ (l : List Core). record { ended = E.Stopped n; memory = M; threads = l }) (all-four count cs h e)
+  ran-stopped = ap (λ (l : List ThreadState). record { ended = E.Stopped n; memory = M; threads = l }) (all-four count cs h e)
 
   pub ran-done : record { ended = E.Done n; memory = M; threads = cs } ≡ ranStand (record { world = world count M cs; steps = n; stopped = false })
   unfolding ranStand endOf
-  ran-done = ap (λ (l : List Core). record { ended = E.Done n; memory = M; threads = l }) (all-four count cs h e)
+  ran-done = ap (λ (l : List ThreadState). record { ended = E.Done n; memory = M; threads = l }) (all-four count cs h e)

@@ -1,8 +1,9 @@
 // The run of buffered threads: its refusals, then the schedule's items, one step each.
 use admit::Admission;
-use buffer::Core;
 use buffer::Moved;
 use runs::Ended;
+use shown::Ran;
+use shown::ThreadState;
 use thread::Instr;
 use thread::Line;
 use thread::Model;
@@ -17,15 +18,9 @@ ghost use Rattle.runs.specs.Run.{items, run, firstBad, threadsRefused};
 ghost use Rattle.buffered.specs.RunBuffered.{runBuffered};
 ghost use Rattle.admit.specs.Answer.{answer};
 ghost use Rattle.buffer.specs.Step.{stepped};
-ghost use Rattle.run_buffered.specs.Cores.{emptyCore, nobodyCore, startCore, startCores, judged, world, coreStep, stoppedRan, ranStand, refusedRan};
-ghost use Rattle.run_buffered.specs.Ran.{cut, startOf, ranOf};
-
-// how the run ended, and the state it shows: memory and the threads, those that are not there all 0
-pub struct Ran {
-    pub ended: Ended,
-    pub memory: [u32; 16],
-    pub threads: [Core; 4],
-}
+ghost use Rattle.run_buffered.specs.Cores.{emptyCore, startCore, startCores, judged, coreStep, stoppedRan, ranStand, refusedRan};
+ghost use Rattle.shown.specs.Ran.{cut, startOf, nobodyState, world};
+ghost use Rattle.run_buffered.specs.Ran.{bufferedRan};
 
 // no thread is refused, or the first that is
 pub enum Judged {
@@ -110,20 +105,20 @@ fn cut_registers(registers: [u32; 64], t: usize) -> [u32; 16]
 }
 
 // a thread with nothing waiting, at line 0
-fn empty_core(registers: [u32; 16]) -> Core
+fn empty_core(registers: [u32; 16]) -> ThreadState
     ensures { λ r. ⌜ r ≡ emptyCore registers ⌝ }
 {
-    Core {
+    ThreadState {
         line: Line(0),
         registers,
-        vars: [0u32; 16],
-        vals: [0u32; 16],
-        len: 0,
+        names: [0u32; 16],
+        values: [0u32; 16],
+        count: 0,
     }
 }
 
 // a thread at its start; one that is not there is all 0
-fn start_core(threads: u32, registers: [u32; 64], t: u32) -> Core
+fn start_core(threads: u32, registers: [u32; 64], t: u32) -> ThreadState
     requires { ⌜ t < 4 ⌝ }
     ensures { λ r. ⌜ r ≡ startCore threads registers t ⌝ }
 {
@@ -133,7 +128,7 @@ fn start_core(threads: u32, registers: [u32; 64], t: u32) -> Core
     empty_core([0u32; 16])
 }
 
-fn start_cores(threads: u32, registers: [u32; 64]) -> [Core; 4]
+fn start_cores(threads: u32, registers: [u32; 64]) -> [ThreadState; 4]
     ensures { λ r. ⌜ r ≡ startCores threads registers ⌝ }
 {
     let first = start_core(threads, registers, 0);
@@ -153,7 +148,7 @@ fn step_thread(
     t: u32,
     choice: u32,
     memory: [u32; 16],
-    core: Core,
+    core: ThreadState,
 ) -> Moved
     requires { ⌜ t < 4 ⌝ }
     ensures { λ r. ⌜ r ≡ stepped model (instrAt (getD (now (t0 .entry) ∷ now (t1 .entry) ∷ now (t2 .entry) ∷ now (t3 .entry) ∷ []) t []) (core .line)) choice memory core ⌝ }
@@ -164,7 +159,7 @@ fn step_thread(
 }
 
 // the item with this index names no step; the state is the one before it
-fn stopped(index: u64, before: [u32; 16], threads: [Core; 4]) -> Ran
+fn stopped(index: u64, before: [u32; 16], threads: [ThreadState; 4]) -> Ran
     ensures { λ r. ⌜ r ≡ stoppedRan index before threads ⌝ }
 {
     Ran {
@@ -183,10 +178,10 @@ fn steps(
     t2: &[u32],
     t3: &[u32],
     start: [u32; 16],
-    begun: [Core; 4],
+    begun: [ThreadState; 4],
     schedule: &[u32],
 ) -> Ran
-    requires { ⌜ (threads ≤ 4) × (drop threads begun ≡ replicate (4 - threads) nobodyCore) ⌝ }
+    requires { ⌜ (threads ≤ 4) × (drop threads begun ≡ replicate (4 - threads) nobodyState) ⌝ }
     ensures { λ r. ⌜ r ≡ ranStand (run (coreStep model (now (t0 .entry) ∷ now (t1 .entry) ∷ now (t2 .entry) ∷ now (t3 .entry) ∷ [])) (items (now (schedule .entry))) 0 (world threads start begun)) ⌝ }
 {
     let mut memory = start;
@@ -246,7 +241,7 @@ pub fn run_buffered(
     registers: [u32; 64],
     schedule: &[u32],
 ) -> Ran
-    ensures { λ r. ⌜ r ≡ ranOf (runBuffered (startOf model threads (now (t0 .entry) ∷ now (t1 .entry) ∷ now (t2 .entry) ∷ now (t3 .entry) ∷ []) memory registers (now (schedule .entry)))) ⌝ }
+    ensures { λ r. ⌜ r ≡ bufferedRan (runBuffered (startOf model threads (now (t0 .entry) ∷ now (t1 .entry) ∷ now (t2 .entry) ∷ now (t3 .entry) ∷ []) memory registers (now (schedule .entry)))) ⌝ }
 {
     let judged = judge(model, threads, t0, t1, t2, t3);
     match judged {

@@ -8,8 +8,9 @@ use borrow.Author.Needs.{needs}
 use Rattle.run_buffered.proofs.Agree.{ran-refused, ran-steps}
 use Rattle.run_buffered.proofs.Starts.{absent-cores}
 use Rattle.run_buffered.proofs.First.{is-bad, is-fine}
-use Rattle.run_buffered.specs.Cores.{world, coreStep, ranStand}
-use Rattle.buffer.specs.declared.Core.{Core}
+use Rattle.shown.specs.Ran.{world}
+use Rattle.run_buffered.specs.Cores.{coreStep, ranStand}
+use Rattle.shown.specs.declared.ThreadState.{ThreadState}
 use Rattle.agree.proofs.Refusals.{none-bad}
 use Rattle.runs.specs.Run.{Bad, items, run, threadsRefused}
 use Rattle.checks.specs.Checks.{admission, modelOf}
@@ -59,7 +60,7 @@ returns-2 c =
     let fine = is-fine (refusals (a .model) (a .t0 .now) (a .t1 .now) (a .t2 .now) (a .t3 .now) (a .threads)) (j .judge .result) (j .judge .ensures) (c .before .before .before .enum-told .given .1) in
     c .steps .ensures
     ∙ ap (λ (m : Model). ranStand (run (coreStep m (a .t0 .now ∷ a .t1 .now ∷ a .t2 .now ∷ a .t3 .now ∷ [])) (items (a .schedule .now)) 0 (world (a .threads) (a .memory) (c .before .start-cores .result)))) (c .before .before .model-of .ensures)
-    ∙ ap (λ (cs : List Core). ranStand (run (coreStep (modelOf (a .model)) (a .t0 .now ∷ a .t1 .now ∷ a .t2 .now ∷ a .t3 .now ∷ [])) (items (a .schedule .now)) 0 (world (a .threads) (a .memory) cs))) (c .before .start-cores .ensures)
+    ∙ ap (λ (cs : List ThreadState). ranStand (run (coreStep (modelOf (a .model)) (a .t0 .now ∷ a .t1 .now ∷ a .t2 .now ∷ a .t3 .now ∷ [])) (items (a .schedule .now)) 0 (world (a .threads) (a .memory) cs))) (c .before .start-cores .ensures)
     ∙ ran-steps (a .model) (a .t0 .now ∷ a .t1 .now ∷ a .t2 .now ∷ a .t3 .now ∷ []) (a .memory) (a .registers) (a .schedule .now) (a .threads) fine
 
 pub run-buffered-spec : {M : Type 1} → statement M
