@@ -1,11 +1,13 @@
 #!/bin/sh
 # Builds the second program.
 #
-#     build.sh [--out FOLDER] [LIBRARY]
+#     build.sh [--out FOLDER] [--no-runs] [LIBRARY [BESIDE]..]
 #
-# vectors: runs the vectors against the model. compare_self: the comparison without the library. With the path of
-# libnardiplex.a also compare: the comparison with the library. With the word plain in its place: the comparison with the
-# plain baseline of the benchmark. What is built goes into FOLDER, else into target/second.
+# vectors: runs the vectors and the known answers against the model. compare_self: the comparison without the library.
+# With the path of libnardiplex.a, and of what is to be linked beside it, also vectors_library: the vectors and the known
+# answers against the library, and compare: the comparison with the library. With the word plain in its place: the same
+# two with the plain baseline of the benchmark, vectors_plain and compare_plain. --no-runs is for a library that has only
+# the reader and the builder. What is built goes into FOLDER, else into target/second.
 set -eu
 here=$(dirname "$0")
 out=target/second
@@ -13,19 +15,30 @@ if [ "${1:-}" = "--out" ]; then
     out=$2
     shift 2
 fi
+linked="--cfg linked"
+if [ "${1:-}" = "--no-runs" ]; then
+    linked="$linked --cfg no_runs"
+    shift
+fi
 mkdir -p "$out"
 compile() {
     rustc --edition 2021 -O "$@"
 }
 compile -o "$out/vectors" "$here/vectors.rs"
 compile --cfg self_only -o "$out/compare_self" "$here/compare.rs"
-library=${1:-}
-name=compare
-if [ "$library" = "plain" ]; then
+[ $# -gt 0 ] || exit 0
+name=library
+compare=compare
+if [ "$1" = "plain" ]; then
     compile --crate-type staticlib -C panic=abort -o "$out/libplain.a" "$here/../bench/plain_c.rs"
-    library=$out/libplain.a
-    name=compare_plain
+    set -- "$out/libplain.a"
+    name=plain
+    compare=compare_plain
 fi
-if [ -n "$library" ]; then
-    compile -C link-arg="$library" -o "$out/$name" "$here/compare.rs"
-fi
+for file; do
+    linked="$linked -C link-arg=$file"
+done
+# shellcheck disable=SC2086
+compile $linked -o "$out/vectors_$name" "$here/vectors.rs"
+# shellcheck disable=SC2086
+compile $linked -o "$out/$compare" "$here/compare.rs"

@@ -3,3 +3,4 @@ pub mod Going
 pub mod Rooms
 pub mod States
 pub mod Whole
+pub mod Only

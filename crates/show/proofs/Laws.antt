@@ -8,6 +8,7 @@ use lib.ListN.{length, take}
 use lib.Seq.{take-all}
 use Rattle.thread.specs.declared.Refusal.{Refusal}
 use Rattle.thread.specs.Sizes.{lineWidth}
+use Rattle.thread.specs.Numbers.{zeros}
 use Rattle.text.specs.declared.Reading.{Reading}
 use Rattle.text.specs.declared.Reading.the-variants as G
 use Rattle.text.specs.Read.{ReadOk, read}
@@ -42,23 +43,24 @@ take-least n l = go (decLe n (length l))
     go (yes h) = let e : min n (length l) ≡ n = omega arith in rw e
     go (no h) = let e : min n (length l) ≡ length l = omega arith in rw (e, take-all (length l) l (omega arith), take-all n l (omega arith))
 
-module _ {text : List ℕ} {tableRoom room : ℕ} {a : Reading} {table nodes edges area : List ℕ} {p : Printed} (l : ReadOk tableRoom text a table) where
-  pub text-refused : (r : Refusal) → a ≡ G.Refused r → print' p area ≡ shownRefusal r room → TextShown text tableRoom nodes edges room p table nodes edges area
+module _ {text : List ℕ} {tableRoom nodeRoom edgeRoom room : ℕ} {a : Reading} {table nodes edges area : List ℕ} {p : Printed} (l : ReadOk tableRoom text a table) where
+  pub text-refused : (r : Refusal) → a ≡ G.Refused r → nodes ≡ zeros nodeRoom → edges ≡ zeros edgeRoom → print' p area ≡ shownRefusal r room
+      → TextShown text tableRoom nodeRoom edgeRoom room p table nodes edges area
   unfolding shownText shownReading
-  text-refused r e f =
+  text-refused r e ns es f =
       record {
         left = l .left;
-        screen = (λ i. record { print = f i; nodes = nodes; edges = edges }) ∙ ap (λ (x : Reading). shownReading x table nodes edges room) (sym e) ∙ rw (l .answered, l .left);
+        screen = (λ i. record { print = f i; nodes = ns i; edges = es i }) ∙ ap (λ (x : Reading). shownReading x table nodeRoom edgeRoom room) (sym e) ∙ rw (l .answered, l .left);
       }
 
-  pub text-read : {nodes′ edges′ : List ℕ} (m lines : ℕ) → a ≡ G.Read m lines → TableShown m (take (min (lineWidth * lines) (length table)) table) (length nodes) (length edges) room p nodes′ edges′ area
-      → TextShown text tableRoom nodes edges room p table nodes′ edges′ area
+  pub text-read : (m lines : ℕ) → a ≡ G.Read m lines → TableShown m (take (min (lineWidth * lines) (length table)) table) nodeRoom edgeRoom room p nodes edges area
+      → TextShown text tableRoom nodeRoom edgeRoom room p table nodes edges area
   unfolding shownText shownReading
   text-read m lines e f =
       record {
         left = l .left;
         screen = f .screen
-            ∙ ap (λ (x : List ℕ). shownTable m x (length nodes) (length edges) room) (take-least (lineWidth * lines) table)
-            ∙ ap (λ (x : Reading). shownReading x table nodes edges room) (sym e)
+            ∙ ap (λ (x : List ℕ). shownTable m x nodeRoom edgeRoom room) (take-least (lineWidth * lines) table)
+            ∙ ap (λ (x : Reading). shownReading x table nodeRoom edgeRoom room) (sym e)
             ∙ rw (l .answered, l .left);
       }

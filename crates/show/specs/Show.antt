@@ -2,9 +2,10 @@
 use mathlib.Core.Path.{_≡_}
 use Prim.Native.Nat.{ℕ, _*_}
 use mathlib.Core.List.{List}
-use lib.ListN.{length, take}
+use lib.ListN.{take}
 use Rattle.thread.specs.declared.Refusal.{Refusal}
 use Rattle.thread.specs.Sizes.{lineWidth}
+use Rattle.thread.specs.Numbers.{zeros}
 use Rattle.thread.specs.Refusal.{numberOf, placeOf}
 use Rattle.text.specs.declared.Reading.{Reading}
 use Rattle.text.specs.declared.Reading.the-variants as G
@@ -39,20 +40,20 @@ unfoldable pub shownTable : ℕ → List ℕ → ℕ → ℕ → ℕ → Screen
 unfolding build shownResult
 shownTable m t nodeRoom edgeRoom room = shownResult m room (build m t nodeRoom edgeRoom)
 
--- a table, or why there is none: then the graph's tables stay as they were
-unfoldable pub shownReading : Reading → List ℕ → List ℕ → List ℕ → ℕ → Screen
+-- a table, or why there is none: "A refusal zeroes every table lent for writing"
+unfoldable pub shownReading : Reading → List ℕ → ℕ → ℕ → ℕ → Screen
 unfolding shownTable shownRefusal
-shownReading (G.Read m lines) table nodes edges room = shownTable m (take (lineWidth * lines) table) (length nodes) (length edges) room
-shownReading (G.Refused r) table nodes edges room = record { print = shownRefusal r room; nodes = nodes; edges = edges }
+shownReading (G.Read m lines) table nodeRoom edgeRoom room = shownTable m (take (lineWidth * lines) table) nodeRoom edgeRoom room
+shownReading (G.Refused r) table nodeRoom edgeRoom room = record { print = shownRefusal r room; nodes = zeros nodeRoom; edges = zeros edgeRoom }
 
-unfoldable pub shownText : List ℕ → ℕ → List ℕ → List ℕ → ℕ → Screen
+unfoldable pub shownText : List ℕ → ℕ → ℕ → ℕ → ℕ → Screen
 unfolding read shownReading
-shownText text tableRoom nodes edges room = let r : ReadResult = read tableRoom text in shownReading (r .answer) (r .table) nodes edges room
+shownText text tableRoom nodeRoom edgeRoom room = let r : ReadResult = read tableRoom text in shownReading (r .answer) (r .table) nodeRoom edgeRoom room
 
 -- what is promised
 pub record TableShown (m : ℕ) (t : List ℕ) (nodeRoom edgeRoom room : ℕ) (r : Printed) (nodes edges area : List ℕ) : Type 0 where
   pub screen : record { print = print' r area; nodes = nodes; edges = edges } ≡ shownTable m t nodeRoom edgeRoom room
 
-pub record TextShown (text : List ℕ) (tableRoom : ℕ) (nodes edges : List ℕ) (room : ℕ) (r : Printed) (table nodes′ edges′ area : List ℕ) : Type 0 where
+pub record TextShown (text : List ℕ) (tableRoom nodeRoom edgeRoom room : ℕ) (r : Printed) (table nodes edges area : List ℕ) : Type 0 where
   pub left : table ≡ read tableRoom text .table
-  pub screen : record { print = print' r area; nodes = nodes′; edges = edges′ } ≡ shownText text tableRoom nodes edges room
+  pub screen : record { print = print' r area; nodes = nodes; edges = edges } ≡ shownText text tableRoom nodeRoom edgeRoom room

@@ -8,6 +8,7 @@ use printed::Printed;
 use text::Reading;
 use text::read;
 use thread::Refusal;
+use thread::clear;
 use thread::number_of;
 use thread::place_of;
 ghost use mathlib.Core.Path.{_≡_};
@@ -45,10 +46,14 @@ pub fn show(
     edges: &mut [u32],
     area: &mut [u8],
 ) -> Printed
-    ensures { λ r. ⌜ TextShown (now (text .entry)) (length (now (table .entry))) (now (nodes .entry)) (now (edges .entry)) (length (now (area .entry))) r (now (table .exit)) (now (nodes .exit)) (now (edges .exit)) (now (area .exit)) ⌝ }
+    ensures { λ r. ⌜ TextShown (now (text .entry)) (length (now (table .entry))) (length (now (nodes .entry))) (length (now (edges .entry))) (length (now (area .entry))) r (now (table .exit)) (now (nodes .exit)) (now (edges .exit)) (now (area .exit)) ⌝ }
 {
     match read(text, table) {
-        Reading::Refused(refusal) => show_refusal(refusal, area),
+        Reading::Refused(refusal) => {
+            clear(nodes);
+            clear(edges);
+            show_refusal(refusal, area)
+        }
         Reading::Read(model, lines) => {
             let end = smaller(5 * (lines as usize), table.len());
             show_table(model, &table[..end], nodes, edges, area)

@@ -4,12 +4,9 @@ use Prim.Native.Nat.{ℕ, zero, suc, _+_, _-_, _*_, _≤_, _<_}
 use native.Mathlib.Omega.{arith}
 use native.Mathlib.Numerals.{add-one}
 use mathlib.Core.List.{List, [], _++_, append-nil, append-assoc}
-use lib.ListN.{length, getD, take, drop, set, drop-of-length-le, take-append-drop, length-append, length-replicate}
+use lib.ListN.{length, getD, take, drop, set, take-append-drop, length-append, length-replicate}
 use lib.Seq.{paste, paste-suc, take-paste, drop-paste, take-all, drop-drop}
 use Rattle.thread.specs.Numbers.{zeros, filled}
-
-pub all-zeros : (t : List ℕ) (i : ℕ) → i ≡ length t → zeros i ++ drop i t ≡ zeros (length t)
-all-zeros t i e = let h : length t ≤ i = omega arith in rw (drop-of-length-le t h, e) (append-nil (zeros (length t)))
 
 pub pasted-more : (t u : List ℕ) (at : ℕ) (s : List ℕ) (i : ℕ) → u ≡ paste t at s i → at + i < length t → i < length s → set u (at + i) (getD s i 0) ≡ paste t at s (i + 1)
 pasted-more t u at s i e h k = rw (e, add-one) (paste-suc t at s i 0 h k)

@@ -1,6 +1,7 @@
 // The reader: a text becomes a model and a table of lines, or a refusal.
 use decimal::Number;
 use thread::Refusal;
+use thread::clear;
 ghost use mathlib.Core.Path.{_≡_};
 ghost use mathlib.Core.Option.{Option·map};
 ghost use mathlib.Core.List.{_++_};
@@ -237,16 +238,6 @@ fn judge(text: &[u8], from: usize) -> Judged
         count += 1;
     }
     Judged::Good(count)
-}
-
-fn clear(table: &mut [u32])
-    ensures { λ _. ⌜ now (table .exit) ≡ zeros (length (now (table .entry))) ⌝ }
-{
-    let mut i: usize = 0;
-    while i < table.len() {
-        table[i] = 0;
-        i += 1;
-    }
 }
 
 fn put(table: &mut [u32], at: usize, numbers: [u32; 5])

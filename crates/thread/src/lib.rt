@@ -1,6 +1,9 @@
 // What a thread is made of: its lines and instructions, the operations on the edges of its graph, and the reasons to refuse it.
 ghost use mathlib.Core.Path.{_≡_};
-ghost use Rattle.thread.specs.Numbers.{_!_};
+ghost use mathlib.Core.List.{_++_};
+ghost use Prim.Native.Nat.{_-_};
+ghost use lib.ListN.{length, take};
+ghost use Rattle.thread.specs.Numbers.{_!_, zeros};
 ghost use Rattle.thread.specs.Operation.{opNumbers};
 ghost use Rattle.thread.specs.Refusal.{numberOf, placeOf};
 ghost use Rattle.thread.specs.Table.{instrOf, instrAt, isStore};
@@ -87,6 +90,24 @@ pub fn number(table: &[u32], at: usize) -> u32
     ensures { λ r. ⌜ r ≡ now (table .entry) ! at ⌝ }
 {
     if at < table.len() { table[at] } else { 0 }
+}
+
+// zeros from a place of a lent room on
+pub fn clear_from(room: &mut [u32], from: usize)
+    ensures { λ _. ⌜ now (room .exit) ≡ take from (now (room .entry)) ++ zeros (length (now (room .entry)) - from) ⌝ }
+{
+    let mut i = from;
+    while i < room.len() {
+        room[i] = 0;
+        i += 1;
+    }
+}
+
+// "A refusal zeroes every table lent for writing"
+pub fn clear(room: &mut [u32])
+    ensures { λ _. ⌜ now (room .exit) ≡ zeros (length (now (room .entry))) ⌝ }
+{
+    clear_from(room, 0);
 }
 
 // the twelve kinds, 0 to 11, with their fields

@@ -12,6 +12,12 @@ read-requires c κs = search needs
 enum-known-refusal : tie.Need-enum-known-refusal
 enum-known-refusal c = search needs
 
+clear-requires : tie.Need-clear-requires
+clear-requires c κs = search needs
+
+clear-requires-2 : tie.Need-clear-requires-2
+clear-requires-2 c κs = search needs
+
 show-refusal-requires : tie.Need-show-refusal-requires
 show-refusal-requires c κs = search needs
 
@@ -42,24 +48,32 @@ same-length c = search needs
 same-length-2 : tie.Need-same-length-2
 same-length-2 c = search needs
 
-returns : tie.Need-returns
-returns c =
-    let p = c .before .before in
-    let r = p .before .before .before in
-    let b = r .before .before .before .before in
-    text-refused (b .read .ensures) (r .refusal .given .0 .0) (r .refusal .given .1) (p .show-refusal .ensures)
-
 same-length-3 : tie.Need-same-length-3
 same-length-3 c = search needs
 
 same-length-4 : tie.Need-same-length-4
 same-length-4 c = search needs
 
+returns : tie.Need-returns
+returns c =
+    let p = c .before .before in
+    let u = p .before .before .before .before in
+    let k = u .before .before .before .before in
+    let r = k .before .before .before in
+    let b = r .before .before .before .before in
+    text-refused (b .read .ensures) (r .refusal .given .0 .0) (r .refusal .given .1) (k .clear .ensures) (u .clear2 .ensures) (p .show-refusal .ensures)
+
 same-length-5 : tie.Need-same-length-5
 same-length-5 c = search needs
 
 same-length-6 : tie.Need-same-length-6
 same-length-6 c = search needs
+
+same-length-7 : tie.Need-same-length-7
+same-length-7 c = search needs
+
+same-length-8 : tie.Need-same-length-8
+same-length-8 c = search needs
 
 returns-2 : tie.Need-returns-2
 returns-2 c =
@@ -75,6 +89,8 @@ show-spec =
     (tie.spec
     read-requires
     enum-known-refusal
+    clear-requires
+    clear-requires-2
     show-refusal-requires
     enum-known-model
     cast-smaller
@@ -85,9 +101,11 @@ show-spec =
     show-table-requires
     same-length
     same-length-2
-    returns
     same-length-3
     same-length-4
+    returns
     same-length-5
     same-length-6
+    same-length-7
+    same-length-8
     returns-2)
