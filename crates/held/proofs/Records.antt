@@ -1,7 +1,7 @@
 -- Laws of a flat table's records as edges, and of the edges of its first eight records: searched, they are what the table is.
 use mathlib.Core.Path.{_≡_, refl, sym, ap, _∙_}
 use mathlib.Core.Bool.{Bool, true, false, cond, _&&_}
-use mathlib.Core.Option.{Option, none, some, Option·map}
+use mathlib.Core.Option.{Option, none, some, Option·map, bind}
 use Prim.Native.Nat.{ℕ, zero, suc, _+_, _-_, _*_, _≤_, _<_, _^_}
 use native.Mathlib.Omega.{arith}
 use native.Mathlib.Numerals.{add-one}
@@ -17,6 +17,8 @@ use Rattle.thread.specs.Table.{line}
 use Rattle.graphs.specs.declared.Edge.{Edge}
 use Rattle.graphs.specs.Records.{node, edgeAt, edgesIn, recordsIn}
 use Rattle.generated.specs.Machine.{choiceOf, testHolds, serves, sameNode, edgeFor, generatedStep, follow}
+use Rattle.generated.specs.declared.Generated.{Generated}
+use Rattle.runs.specs.Run.{back, takes}
 use Rattle.edges.specs.declared.Named.{Named}
 use Rattle.edges.specs.declared.Named.the-variants as N
 use Rattle.edges.specs.declared.Taken.{Taken}
@@ -25,7 +27,7 @@ use Rattle.edges.specs.Answers.{named, taken}
 use Rattle.edges.proofs.Laws.{opIn, junk, is-named}
 use Rattle.edges.proofs.Scan.{collect-more, collect-end, scan-all}
 use Rattle.held.specs.declared.Machine.{Machine}
-use Rattle.held.specs.Held.{stepAlong, state, nextFor, stepped}
+use Rattle.held.specs.Held.{stepAlong, worldOf, nextFor, stepped, ownAt}
 use Rattle.held.specs.Few.{edgeOf, idle, orIdle, placed, few}
 
 module _ (t : List ℕ) (k : ℕ) where
@@ -116,7 +118,12 @@ module _ (n : Node) (c : ℕ) (R : List ℕ) where
     unfolding few
     few-found h = placed-from 8 0 h ∙ scan-all t n c R
 
--- and the step along them is the step by its numbers
-pub few-step : (m : Machine) (t : List ℕ) (c : ℕ) → c < 2 ^ 32 → recordsIn 7 t ≤ 8 → stepped m (few t) c ≡ nextFor (generatedStep t c (state m)) m
-unfolding stepped stepAlong generatedStep
-few-step m t c fits h = ap (λ (o : Option Edge). nextFor (Option·map (follow (state m)) o) m) (few-found (m .own .node) c (m .own .registers) fits t h)
+-- and an item along them is the run's item by its numbers
+pub few-step : (m : Machine) (tab : List ℕ) (t c : ℕ) → c < 2 ^ 32 → recordsIn 7 tab ≤ 8 → stepped m (few tab) t c ≡ nextFor (takes (λ _. generatedStep tab) (worldOf m) t c) m
+unfolding stepped takes back stepAlong generatedStep
+few-step m tab t c fits h = go (ownAt m t)
+  where
+    go : (o : Option Generated) → nextFor (bind o (λ (a : Generated). Option·map (back (λ _. generatedStep tab) (worldOf m) t) (stepAlong (few tab) c (record { memory = m .memory; own = a })))) m
+        ≡ nextFor (bind o (λ (a : Generated). Option·map (back (λ _. generatedStep tab) (worldOf m) t) (generatedStep tab c (record { memory = m .memory; own = a })))) m
+    go none = refl
+    go (some a) = rw (few-found (a .node) c (a .registers) fits tab h)

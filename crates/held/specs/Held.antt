@@ -1,11 +1,14 @@
--- "A graph is handed on as a lent table of edge records": the step of a generated thread along a list of edges, and a machine moved by it.
+-- "A graph is handed on as a lent table of edge records": the step of a generated thread along a list of edges, and a machine of several threads moved by it.
 use mathlib.Core.Bool.{true, false}
-use mathlib.Core.Option.{Option, none, some, Option·map}
+use mathlib.Core.Option.{Option, none, some, Option·map, bind}
 use Prim.Native.Nat.{ℕ, _+_}
-use mathlib.Core.List.{List, [], _∷_}
+use mathlib.Core.List.{List, [], _∷_, _++_}
+use lib.ListN.{getD, getElem?, drop}
 use Rattle.thread.specs.declared.Node.{Node}
 use Rattle.thread.specs.declared.Op.the-variants as O
-use Rattle.runs.specs.Run.{In}
+use Rattle.thread.specs.Sizes.{registers, mostLines}
+use Rattle.thread.specs.Numbers.{zeros}
+use Rattle.runs.specs.Run.{In, World, back, takes, move}
 use Rattle.graphs.specs.declared.Edge.{Edge}
 use Rattle.graphs.specs.Records.{node}
 use Rattle.generated.specs.declared.Generated.{Generated}
@@ -13,8 +16,7 @@ use Rattle.generated.specs.Machine.{follow, edgeFor}
 use Rattle.edges.specs.declared.Taken.{Taken}
 use Rattle.edges.specs.declared.Taken.the-variants as T
 use Rattle.edges.specs.Answers.{taken}
-use Rattle.step.specs.declared.Moved.{Moved}
-use Rattle.step.specs.Step.{changeAlong, applied}
+use Rattle.shown.specs.Ran.{world}
 use Rattle.held.specs.declared.Look.{Look}
 use Rattle.held.specs.declared.Machine.{Machine}
 use Rattle.held.specs.declared.Next.{Next}
@@ -36,27 +38,46 @@ unfoldable pub lookOf : Edge → Node → ℕ → List ℕ → ℕ → ℕ → L
 unfolding edgeFor
 lookOf e n c R i end = record { found = alone e n c R; next = nextOf (alone e n c R) i end }
 
--- "Each schedule item moves the machine's state by one step", along a list of edges
+-- the step of a thread along a list of edges
 unfoldable pub stepAlong : List Edge → ℕ → In Generated → Option (In Generated)
 unfolding edgeFor follow
 stepAlong es c s = Option·map (follow s) (edgeFor es (s .own .node) c (s .own .registers))
 
-abbrev pub state : Machine → In Generated
-state m = record { memory = m .memory; own = m .own }
+-- the threads that are there, over their memory
+abbrev pub worldOf : Machine → World Generated
+worldOf m = world (m .count) (m .memory) (m .threads)
 
--- the machine after a step, or as it is where there is none
-unfoldable pub nextFor : Option (In Generated) → Machine → Next
+-- the machine in that world, if there is one: a thread that isn't there stays as it is. Else all stays as it is
+unfoldable pub nextFor : Option (World Generated) → Machine → Next
 nextFor none m = record { m = m; ok = false }
-nextFor (some s) m = record { m = record { memory = s .memory; own = s .own }; ok = true }
+nextFor (some w) m = record { m = record { memory = w .memory; threads = w .threads ++ drop (m .count) (m .threads); count = m .count }; ok = true }
 
-unfoldable pub stepped : Machine → List Edge → ℕ → Next
-unfolding stepAlong nextFor
-stepped m es c = nextFor (stepAlong es c (state m)) m
+-- thread t takes choice c along a list of edges
+unfoldable pub stepped : Machine → List Edge → ℕ → ℕ → Next
+unfolding takes stepAlong nextFor
+stepped m es t c = nextFor (takes (λ _. stepAlong es) (worldOf m) t c) m
 
--- the same in two parts: an edge is found, then the machine goes along it
-abbrev pub asNext : Moved → Next
-asNext a = record { m = record { memory = a .memory; own = a .own }; ok = a .ok }
+-- each thread along its own edges
+abbrev pub alongOwn : List (List Edge) → ℕ → ℕ → In Generated → Option (In Generated)
+alongOwn edges k = stepAlong (getD edges k [])
 
-unfoldable pub movedAlong : Machine → Taken → Next
-unfolding changeAlong applied
-movedAlong m found = asNext (applied (changeAlong found (m .memory) (m .own)) (m .memory) (m .own))
+-- "Each schedule item moves the machine's state by one step": the run's own item
+unfoldable pub itemDone : Machine → List (List Edge) → ℕ → ℕ → Next
+unfolding move stepAlong nextFor
+itemDone m edges t c = nextFor (move (alongOwn edges) (record { thread = t; choice = some c }) (worldOf m)) m
+
+-- `stepped` in two parts: an edge is found for thread t, if it is there; then it goes along it
+abbrev pub ownAt : Machine → ℕ → Option Generated
+ownAt m t = getElem? (worldOf m .threads) t
+
+abbrev pub orNobody : Option Generated → Generated
+orNobody none = record { node = node 0; registers = zeros registers; auxiliaries = zeros mostLines }
+orNobody (some g) = g
+
+abbrev pub along : In Generated → Taken → Option (In Generated)
+along s T.Nothing = none
+along s (T.Along e) = some (follow s e)
+
+unfoldable pub movedAlong : Machine → ℕ → Taken → Next
+unfolding takes follow nextFor
+movedAlong m t found = nextFor (takes (λ _ _ (s : In Generated). along s found) (worldOf m) t 0) m

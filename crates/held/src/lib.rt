@@ -1,5 +1,5 @@
-// The two forms over references: a search in a lent slice of edges, and a step of a machine behind a `&mut`. Both are thin: what
-// they do is done by functions on values.
+// The two forms over references: a search in a lent slice of edges, and one schedule item carried out on a machine behind a `&mut`.
+// Both are thin: what they do is done by functions on values.
 use edges::Named;
 use edges::Taken;
 use generated::Generated;
@@ -7,11 +7,15 @@ use graphs::Edge;
 use thread::Line;
 use thread::Node;
 use thread::Op;
+ghost use mathlib.Core.Bool.{_&&_};
+ghost use mathlib.Core.List.{[], _∷_};
 ghost use mathlib.Core.Path.{_≡_};
 ghost use Prim.Native.Nat.{_<_};
+ghost use lib.Dec.{ltb};
+ghost use lib.ListN.{getD};
 ghost use Rattle.generated.specs.Machine.{edgeFor};
 ghost use Rattle.edges.specs.Answers.{taken};
-ghost use Rattle.held.specs.Held.{lookOf, movedAlong, stepped};
+ghost use Rattle.held.specs.Held.{lookOf, ownAt, orNobody, movedAlong, stepped, itemDone};
 ghost use Rattle.held.specs.Few.{edgeOf, placed, few};
 
 // what a look at one edge says: the edge if it fits, and where to look next
@@ -20,13 +24,14 @@ struct Look {
     next: usize,
 }
 
-// one generated thread with the memory
+// up to four generated threads over one memory: the first `count` are there
 pub struct Machine {
     pub memory: [u32; 16],
-    pub own: Generated,
+    pub threads: [Generated; 4],
+    pub count: u32,
 }
 
-// a machine after a step; not ok: there was none
+// a machine after an item; not ok: the item names no step
 pub struct Next {
     pub m: Machine,
     pub ok: bool,
@@ -72,48 +77,78 @@ pub fn edge_in(edges: &[Edge], node: Node, choice: u32, registers: [u32; 16]) ->
     found
 }
 
-// the node where a machine's thread stands
-fn node_of(m: Machine) -> Node
-    ensures { λ r. ⌜ r ≡ m .own .node ⌝ }
+// whether thread t is there
+fn present(count: u32, t: u32) -> bool
+    ensures { λ r. ⌜ r ≡ ltb t count && ltb t 4 ⌝ }
 {
-    let own = m.own;
-    own.node
+    (t < count) & (t < 4)
 }
 
-// the registers of a machine's thread
-fn registers_of(m: Machine) -> [u32; 16]
-    ensures { λ r. ⌜ r ≡ m .own .registers ⌝ }
+// thread t; where it isn't there, one at node 0 with zeros
+fn own_of(m: Machine, t: u32) -> Generated
+    ensures { λ r. ⌜ r ≡ orNobody (ownAt m t) ⌝ }
 {
-    let own = m.own;
-    own.registers
-}
-
-// a machine that goes along an edge, if one was found
-pub fn moved(m: Machine, found: Taken) -> Next
-    ensures { λ r. ⌜ r ≡ movedAlong m found ⌝ }
-{
-    let memory = m.memory;
-    let own = m.own;
-    let a = step::apply(step::change_along(found, memory, own), memory, own);
-    let after = a.memory;
-    let next = a.own;
-    Next {
-        m: Machine {
-            memory: after,
-            own: next,
-        },
-        ok: a.ok,
+    let threads = m.threads;
+    if present(m.count, t) {
+        let place = t as usize;
+        return threads[place];
+    }
+    Generated {
+        node: Node(0),
+        registers: [0; 16],
+        auxiliaries: [0; 64],
     }
 }
 
-// the machine takes a choice, if the lent edges have it; else it stays as it is
-pub fn step(m: &mut Machine, edges: &[Edge], choice: u32) -> bool
-    ensures { λ r. ⌜ (now (m .exit) ≡ stepped (now (m .entry)) (now (edges .entry)) choice .m) × (r ≡ stepped (now (m .entry)) (now (edges .entry)) choice .ok) ⌝ }
+// the node where thread t stands
+fn node_of(m: Machine, t: u32) -> Node
+    ensures { λ r. ⌜ r ≡ orNobody (ownAt m t) .node ⌝ }
 {
-    let n = node_of(*m);
-    let registers = registers_of(*m);
+    let own = own_of(m, t);
+    own.node
+}
+
+// the registers of thread t
+fn registers_of(m: Machine, t: u32) -> [u32; 16]
+    ensures { λ r. ⌜ r ≡ orNobody (ownAt m t) .registers ⌝ }
+{
+    let own = own_of(m, t);
+    own.registers
+}
+
+// the machine whose thread t goes along an edge, if it is there and one was found
+pub fn moved(m: Machine, t: u32, found: Taken) -> Next
+    ensures { λ r. ⌜ r ≡ movedAlong m t found ⌝ }
+{
+    if present(m.count, t) {
+        let memory = m.memory;
+        let mut threads = m.threads;
+        let place = t as usize;
+        let own = threads[place];
+        let a = step::apply(step::change_along(found, memory, own), memory, own);
+        let after = a.memory;
+        let next = a.own;
+        threads[place] = next;
+        return Next {
+            m: Machine {
+                memory: after,
+                threads,
+                count: m.count,
+            },
+            ok: a.ok,
+        };
+    }
+    Next { m, ok: false }
+}
+
+// one schedule item: thread t takes a choice along its lent edges, if it is there and they have it; else the machine stays as it is
+pub fn step(m: &mut Machine, edges: &[Edge], t: u32, choice: u32) -> bool
+    ensures { λ r. ⌜ (now (m .exit) ≡ stepped (now (m .entry)) (now (edges .entry)) t choice .m) × (r ≡ stepped (now (m .entry)) (now (edges .entry)) t choice .ok) ⌝ }
+{
+    let n = node_of(*m, t);
+    let registers = registers_of(*m, t);
     let f = edge_in(edges, n, choice, registers);
-    let s = moved(*m, f);
+    let s = moved(*m, t, f);
     *m = s.m;
     s.ok
 }
@@ -126,12 +161,39 @@ pub fn edge_among(table: [Edge; 8], node: Node, choice: u32, registers: [u32; 16
 }
 
 // as `step`, of a machine and few edges by value: a caller names no reference to a machine
-pub fn step_among(start: Machine, table: [Edge; 8], choice: u32) -> Next
-    ensures { λ r. ⌜ r ≡ stepped start table choice ⌝ }
+pub fn step_among(start: Machine, table: [Edge; 8], t: u32, choice: u32) -> Next
+    ensures { λ r. ⌜ r ≡ stepped start table t choice ⌝ }
 {
     let mut m = start;
-    let ok = step(&mut m, &table, choice);
+    let ok = step(&mut m, &table, t, choice);
     Next { m, ok }
+}
+
+// the edges of thread t; past the last thread those of the last
+fn edges_of(e0: [Edge; 8], e1: [Edge; 8], e2: [Edge; 8], e3: [Edge; 8], t: u32) -> [Edge; 8]
+    ensures { λ r. ⌜ r ≡ getD (e0 ∷ e1 ∷ e2 ∷ []) t e3 ⌝ }
+{
+    match t {
+        0 => e0,
+        1 => e1,
+        2 => e2,
+        _ => e3,
+    }
+}
+
+// one item of the run of up to four threads, each along its own edges
+pub fn item_among(
+    start: Machine,
+    e0: [Edge; 8],
+    e1: [Edge; 8],
+    e2: [Edge; 8],
+    e3: [Edge; 8],
+    t: u32,
+    choice: u32,
+) -> Next
+    ensures { λ r. ⌜ r ≡ itemDone start (e0 ∷ e1 ∷ e2 ∷ e3 ∷ []) t choice ⌝ }
+{
+    step_among(start, edges_of(e0, e1, e2, e3, t), t, choice)
 }
 
 // record k of a flat table as an edge, if it is one

@@ -14,13 +14,13 @@ use Rattle.runs.proofs.Laws.{run-step, run-stop}
 use Rattle.shown.specs.Ran.{world}
 
 module _ {A : Type 0} where
-  get-taken : (l : List A) (n t : ℕ) (d : A) → t < n → t < length l → getElem? (take n l) t ≡ some (getD l t d)
+  pub get-taken : (l : List A) (n t : ℕ) (d : A) → t < n → t < length l → getElem? (take n l) t ≡ some (getD l t d)
   get-taken [] n t d h k = absurd (omega arith)
   get-taken (a ∷ l) zero t d h k = absurd (omega arith)
   get-taken (a ∷ l) (suc n) zero d h k = refl
   get-taken (a ∷ l) (suc n) (suc t) d h k = get-taken l n t d (omega arith) (omega arith)
 
-  get-past : (l : List A) (n t : ℕ) → n ≤ t → getElem? (take n l) t ≡ none
+  pub get-past : (l : List A) (n t : ℕ) → n ≤ t → getElem? (take n l) t ≡ none
   get-past [] zero t h = refl
   get-past [] (suc n) t h = refl
   get-past (a ∷ l) zero t h = refl
@@ -42,7 +42,7 @@ module _ {T : Type 0} (step : ℕ → ℕ → In T → Option (In T)) (count : �
     abbrev itemAt : Item
     itemAt = record { thread = s ! p; choice = some (s ! (p + 1)) }
 
-    item-first : p + 1 < length s → items (drop p s) ≡ itemAt ∷ items (drop (p + 2) s)
+    pub item-first : p + 1 < length s → items (drop p s) ≡ itemAt ∷ items (drop (p + 2) s)
     unfolding items
     item-first h =
         let a : drop p s ≡ s ! p ∷ drop (suc p) s = drop-cons s p 0 (omega arith) in
