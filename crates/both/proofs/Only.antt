@@ -6,7 +6,7 @@ use Rattle.lists.proofs.Only.{only as equals}
 use Rattle.generated.specs.RunGenerated.{runGenerated}
 use Rattle.shown.specs.declared.Ran.{Ran}
 use Rattle.shown.specs.Ran.{startOf}
-use Rattle.run_generated.specs.Graphs.{roomsOf}
+use Rattle.rooms.specs.Graphs.{roomsOf}
 use Rattle.run_generated.proofs.Only.{only as generated-only}
 use Rattle.both.specs.Returned.{BothRun}
 

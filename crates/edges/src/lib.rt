@@ -28,17 +28,6 @@ pub enum Named {
     Junk,
 }
 
-// the value of register or variable i; 0 past the end
-pub fn value(values: [u32; 16], i: u32) -> u32
-    ensures { λ r. ⌜ r ≡ values ! i ⌝ }
-{
-    if REGISTERS <= i {
-        return 0;
-    }
-    let at = i as usize;
-    values[at]
-}
-
 // the operation by its number, with its fields
 pub fn op_named(o: u32, a: u32, b: u32, c: u32, d: u32) -> Named
     ensures { λ r. ⌜ r ≡ named (opNamed o a b c d) ⌝ }
@@ -109,19 +98,19 @@ pub fn choice_of(op: Op) -> u64
 }
 
 // whether the test of an operation holds, for one that has a test
-pub fn test_holds(registers: [u32; 16], op: Op) -> bool
-    ensures { λ r. ⌜ r ≡ testHolds registers op ⌝ }
+pub fn test_holds(registers: &[u32], op: Op) -> bool
+    ensures { λ r. ⌜ r ≡ testHolds (now (registers .entry)) op ⌝ }
 {
     match op {
-        Op::IfNz(r) => value(registers, r) != 0,
-        Op::IfZ(r) => value(registers, r) == 0,
+        Op::IfNz(r) => thread::number(registers, r as usize) != 0,
+        Op::IfZ(r) => thread::number(registers, r as usize) == 0,
         _ => true,
     }
 }
 
 // whether an operation serves a choice
-pub fn serves(choice: u32, registers: [u32; 16], op: Op) -> bool
-    ensures { λ r. ⌜ r ≡ serves choice registers op ⌝ }
+pub fn serves(choice: u32, registers: &[u32], op: Op) -> bool
+    ensures { λ r. ⌜ r ≡ serves choice (now (registers .entry)) op ⌝ }
 {
     if choice_of(op) != choice as u64 {
         return false;
@@ -136,9 +125,9 @@ pub enum Taken {
 }
 
 // record k of a table, if it is an edge that leaves the node and serves the choice
-fn fits(table: &[u32], k: usize, node: Node, choice: u32, registers: [u32; 16]) -> Taken
+fn fits(table: &[u32], k: usize, node: Node, choice: u32, registers: &[u32]) -> Taken
     requires { ⌜ 7 * k + 7 ≤ length (now table) ⌝ }
-    ensures { λ r. ⌜ r ≡ taken (edgeThere (now (table .entry)) k node choice registers) ⌝ }
+    ensures { λ r. ⌜ r ≡ taken (edgeThere (now (table .entry)) k node choice (now (registers .entry))) ⌝ }
 {
     let i = EDGE_WIDTH * k;
     if table[i] != node.0 {
@@ -170,7 +159,7 @@ pub fn edge_for(table: &[u32], node: Node, choice: u32, registers: [u32; 16]) ->
     let records = table.len() / EDGE_WIDTH;
     let mut k: usize = 0;
     while k < records {
-        if let Taken::Along(e) = fits(table, k, node, choice, registers) {
+        if let Taken::Along(e) = fits(table, k, node, choice, &registers) {
             return Taken::Along(e);
         }
         k += 1;
@@ -196,14 +185,8 @@ pub fn start_of(table: &[u32], node: Node) -> usize
 }
 
 // from a record on, the first edge that serves the choice, as long as the records leave the node
-pub fn edge_near(
-    table: &[u32],
-    node: Node,
-    choice: u32,
-    registers: [u32; 16],
-    start: usize,
-) -> Taken
-    ensures { λ r. ⌜ r ≡ taken (edgeNear (now (table .entry)) node choice registers start (recordsIn 7 (now (table .entry)) - start)) ⌝ }
+pub fn edge_near(table: &[u32], node: Node, choice: u32, registers: &[u32], start: usize) -> Taken
+    ensures { λ r. ⌜ r ≡ taken (edgeNear (now (table .entry)) node choice (now (registers .entry)) start (recordsIn 7 (now (table .entry)) - start)) ⌝ }
 {
     let records = table.len() / EDGE_WIDTH;
     let mut k = start;
@@ -220,8 +203,15 @@ pub fn edge_near(
 }
 
 // as `edge_for`, where the table is in the order of its nodes: only the node's own records are looked at
+pub fn edge_sought_in(table: &[u32], node: Node, choice: u32, registers: &[u32]) -> Taken
+    ensures { λ r. ⌜ r ≡ taken (edgeSought (now (table .entry)) node choice (now (registers .entry))) ⌝ }
+{
+    edge_near(table, node, choice, registers, start_of(table, node))
+}
+
+// the same of registers by value
 pub fn edge_sought(table: &[u32], node: Node, choice: u32, registers: [u32; 16]) -> Taken
     ensures { λ r. ⌜ r ≡ taken (edgeSought (now (table .entry)) node choice registers) ⌝ }
 {
-    edge_near(table, node, choice, registers, start_of(table, node))
+    edge_sought_in(table, node, choice, &registers)
 }

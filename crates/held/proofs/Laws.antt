@@ -81,7 +81,7 @@ module _ (m : Machine) (t : ℕ) (four : length (m .threads) ≡ 4) (r : Bool) (
     abbrev own : Generated
     own = getD (m .threads) t d
 
-    moves : (found : Taken) → let a = applied (changeAlong found (m .memory) own) (m .memory) own in
+    moves : (found : Taken) → let a = applied (changeAlong found (m .memory) (own .registers) (own .auxiliaries)) (m .memory) own in
         record { m = record { memory = a .memory; threads = set (m .threads) t (a .own); count = m .count }; ok = a .ok } ≡ nextFor (Option·map (back (λ _ _ (s : In Generated). along s found) (worldOf m) t) (along (record { memory = m .memory; own = own }) found)) m
     unfolding changeAlong applied nextFor back follow
     moves K.Nothing = rw (set-own (m .threads) t d)
@@ -89,7 +89,7 @@ module _ (m : Machine) (t : ℕ) (four : length (m .threads) ≡ 4) (r : Bool) (
         let q = there h in
         rw (acts (x .op) (x .to) (m .memory) own, set-front (m .threads) (m .count) t (follow (record { memory = m .memory; own = own }) x .own) (q .0) (q .1))
 
-    pub moved-done : (found : Taken) (c : Change) (a : Moved) → c ≡ changeAlong found (m .memory) own → a ≡ applied c (m .memory) own
+    pub moved-done : (found : Taken) (c : Change) (a : Moved) → c ≡ changeAlong found (m .memory) (own .registers) (own .auxiliaries) → a ≡ applied c (m .memory) own
         → record { m = record { memory = a .memory; threads = set (m .threads) t (a .own); count = m .count }; ok = a .ok } ≡ movedAlong m t found
     unfolding movedAlong takes
     moved-done found c a p q = rw (q, p, own-there h d) (moves found)

@@ -4,6 +4,7 @@ use edges::Named;
 use edges::Taken;
 use generated::Generated;
 use graphs::Edge;
+use step::Change;
 use thread::Line;
 use thread::Node;
 use thread::Op;
@@ -15,6 +16,7 @@ ghost use lib.Dec.{ltb};
 ghost use lib.ListN.{getD};
 ghost use Rattle.generated.specs.Machine.{edgeFor};
 ghost use Rattle.edges.specs.Answers.{taken};
+ghost use Rattle.step.specs.Step.{changeAlong};
 ghost use Rattle.held.specs.Held.{lookOf, ownAt, orNobody, movedAlong, stepped, itemDone};
 ghost use Rattle.held.specs.Few.{edgeOf, placed, few};
 
@@ -50,7 +52,7 @@ fn looked(e: Edge, node: Node, choice: u32, registers: [u32; 16], i: usize, end:
             next: i + 1,
         };
     }
-    if edges::serves(choice, registers, op) {
+    if edges::serves(choice, &registers, op) {
         return Look {
             found: Taken::Along(e),
             next: end,
@@ -116,6 +118,15 @@ fn registers_of(m: Machine, t: u32) -> [u32; 16]
     own.registers
 }
 
+// what changes along an edge, if one was found
+fn change_by(found: Taken, memory: [u32; 16], own: Generated) -> Change
+    ensures { λ r. ⌜ r ≡ changeAlong found memory (own .registers) (own .auxiliaries) ⌝ }
+{
+    let registers = own.registers;
+    let auxiliaries = own.auxiliaries;
+    step::change_along(found, &memory, &registers, &auxiliaries)
+}
+
 // the machine whose thread t goes along an edge, if it is there and one was found
 pub fn moved(m: Machine, t: u32, found: Taken) -> Next
     ensures { λ r. ⌜ r ≡ movedAlong m t found ⌝ }
@@ -125,7 +136,7 @@ pub fn moved(m: Machine, t: u32, found: Taken) -> Next
         let mut threads = m.threads;
         let place = t as usize;
         let own = threads[place];
-        let a = step::apply(step::change_along(found, memory, own), memory, own);
+        let a = step::apply(change_by(found, memory, own), memory, own);
         let after = a.memory;
         let next = a.own;
         threads[place] = next;

@@ -103,7 +103,7 @@ fn name_at(nodes: &[u32], node: Node, i: u32) -> u32 {
 fn value_at(nodes: &[u32], node: Node, i: u32, auxiliaries: [u32; 64]) -> u32 {
     let at = 18 * (node.0 as usize);
     if i < number(nodes, at + 1) {
-        return step::waiting_value(auxiliaries, Line(name_at(nodes, node, i)));
+        return step::waiting_value(&auxiliaries, Line(name_at(nodes, node, i)));
     }
     0
 }

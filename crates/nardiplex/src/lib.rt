@@ -15,7 +15,7 @@ ghost use Rattle.buffered.specs.RunBuffered.{runBuffered};
 ghost use Rattle.generated.specs.RunGenerated.{runGenerated};
 ghost use Rattle.shown.specs.Ran.{startOf};
 ghost use Rattle.run_buffered.specs.Ran.{bufferedRan};
-ghost use Rattle.run_generated.specs.Graphs.{roomsOf};
+ghost use Rattle.rooms.specs.Graphs.{roomsOf};
 ghost use Rattle.nardiplex.specs.State.{threadNumbers, stateNumbers};
 ghost use Rattle.nardiplex.specs.Answers.{readNumbers, ReadPassed, buildNumbers, BuildPassed, runNumbers, RunPassed, GeneratedPassed};
 

@@ -1,6 +1,6 @@
 -- The whole run: what is answered, shown and left in the rooms is what the definition says.
 use mathlib.Core.Path.{_≡_, refl, sym, ap, subst, _∙_}
-use mathlib.Core.Bool.{true, false, cond}
+use mathlib.Core.Bool.{Bool, true, false, cond}
 use mathlib.Core.Option.{Option, none, some, Option·map}
 use Prim.Native.Nat.{ℕ, zero, suc, _*_, _≤_, _<_}
 use native.Mathlib.Omega.{arith}
@@ -9,14 +9,15 @@ use lib.ListN.{length, getD, take}
 use lib.Seq.{length-take-le}
 use lib.Dec.{ltb}
 use Rattle.lists.specs.Lists.{each, listed, collect}
-use Rattle.lists.proofs.Lists.{Holds}
+use Rattle.lists.proofs.Lists.{Holds, not-some}
 use Rattle.lists.proofs.Tests.{lt-true}
 use Rattle.thread.specs.declared.Refusal.{Refusal}
 use Rattle.thread.specs.declared.Refusal.the-variants as R
 use Rattle.thread.specs.Numbers.{zeros}
-use Rattle.runs.specs.Run.{In, World, Stand, Item, items, run, badThreads, threadsRefused, endOf}
+use Rattle.runs.specs.Run.{In, World, Stand, Item, Bad, items, run, badThreads, threadsRefused, endOf}
 use Rattle.runs.specs.Start.{Start, startWorld}
-use Rattle.runs.specs.Shown.{shownState}
+use Rattle.runs.specs.declared.Ended.the-variants as E
+use Rattle.runs.specs.Shown.{shownState, zeroState}
 use Rattle.runs.proofs.Worlds.{within, Each, viewStand, viewWorld, same-runs}
 use Rattle.graphs.specs.Build.{Result, refusal, build}
 use Rattle.edges.specs.Sought.{Sorted}
@@ -24,20 +25,22 @@ use Rattle.edges.proofs.Order.{sorted-built}
 use Rattle.generated.specs.declared.Generated.{Generated}
 use Rattle.generated.specs.Machine.{generatedStep}
 use Rattle.generated.specs.RunGenerated.{Rooms, nodeRoom, edgeRoom, builtFor, edgeTable, startGenerated, shownGenerated, roomsAfter, GeneratedResult, standGenerated, resultGenerated, threadRefusal, runGenerated}
-use Rattle.step.specs.Step.{movedOf}
+use Rattle.step.specs.Step.{movedOf, searched}
 use Rattle.step.proofs.Laws.{steps-sought}
 use Rattle.agree.proofs.Refusals.{none-bad}
 use Rattle.agree.proofs.Threads.{Alive}
 use Rattle.agree.proofs.Whole.{generated-result, end-alive}
 use Rattle.shown.specs.declared.ThreadState.{ThreadState}
 use Rattle.shown.specs.declared.Ran.{Ran}
-use Rattle.shown.specs.Ran.{startOf, threadState, ranOf, world}
-use Rattle.run_generated.specs.Threads.{startFour, taken, searched, soughtStep}
-use Rattle.run_generated.specs.States.{stateAt}
-use Rattle.run_generated.specs.Graphs.{roomsOf, made, madeFor, edgeCount, firstRefused, four, Graphed, firstEdges}
-use Rattle.run_generated.specs.Ran.{fourStates, Goes, Refuses, Runs}
-use Rattle.run_generated.proofs.Rooms.{first-is, few-threads, made-nodes, made-edges}
-use Rattle.run_generated.proofs.States.{state-is, alive-readable, four-shown}
+use Rattle.shown.specs.Ran.{four, startOf, threadState, ranOf, world}
+use Rattle.room.specs.Room.{made}
+use Rattle.rooms.specs.Graphs.{roomsOf, madeFor, edgeCount, refusedIn, Refuses, Fills, firstEdges}
+use Rattle.rooms.proofs.Rooms.{few-threads, made-within, made-nodes, made-edges}
+use Rattle.flat.specs.Flat.{taken, soughtStep}
+use Rattle.run_generated.specs.Threads.{startFour}
+use Rattle.states.specs.States.{stateAt, fourStates}
+use Rattle.states.proofs.States.{state-is, alive-readable, four-shown}
+use Rattle.run_generated.specs.Ran.{Goes, Runs}
 
 -- The search leads to the step.
 module _ (table : List ℕ) (sorted : Sorted table) where
@@ -117,30 +120,29 @@ module _ (m count : ℕ) (tables : List (List ℕ)) (n0 n1 n2 n3 e0 e1 e2 e3 M a
   abbrev result : GeneratedResult
   result = runGenerated start rooms
 
-  -- 14
-  pub bad-count : badThreads count ≡ true → threadsRefused (threadRefusal start rooms) count ≡ some (record { thread = 0; refusal = R.BadThreads })
-  unfolding threadsRefused
-  bad-count e = rw (e, threadsRefused)
-
-  -- 2 to 13
-  threads-first : badThreads count ≡ false → firstRefused b ≡ threadsRefused (threadRefusal start rooms) count
-  unfolding threadsRefused threadRefusal
-  threads-first e = first-is m count (λ t. getD tables t []) (nodeRoom rooms) (edgeRoom rooms) (few-threads count e) ∙ rw (e, threadsRefused)
-
-  pub bad-thread : badThreads count ≡ false → (t : ℕ) (r : Refusal) → firstRefused b ≡ some (record { thread = t; refusal = r }) → threadsRefused (threadRefusal start rooms) count ≡ some (record { thread = t; refusal = r })
-  bad-thread e t r f = sym (threads-first e) ∙ f
+  refused-is : refusedIn m count tables rooms ≡ threadsRefused (threadRefusal start rooms) count
+  unfolding threadRefusal
+  refused-is = refl
 
   -- a refusal
-  pub ran-refused : (t : ℕ) (r : Refusal) → threadsRefused (threadRefusal start rooms) count ≡ some (record { thread = t; refusal = r })
-      → (ns es ns′ es′ : List (List ℕ)) → map length ns ≡ rooms .nodes → map length es ≡ rooms .edges → (x : Ran) → Refuses t r ns es ns′ es′ x → Runs result ns′ es′ x
+  pub ran-refused : (t : ℕ) (r : Refusal) (ns′ es′ : List (List ℕ)) → Refuses m count tables rooms ns′ es′ t r → (x : Ran) → x ≡ ranOf (E.Refused t r) zeroState → Runs result ns′ es′ x
   unfolding runGenerated roomsAfter collect listed
-  ran-refused t r f ns es ns′ es′ p q x h =
-      rw (f, runGenerated) (record { ran = h .ran; nodes = h .nodes ∙ ap (map zeros) p; edges = h .edges ∙ ap (map zeros) q })
+  ran-refused t r ns′ es′ h x e =
+      let f : threadsRefused (threadRefusal start rooms) count ≡ some (record { thread = t; refusal = r }) = sym refused-is ∙ h .refused in
+      rw (f, runGenerated) (record { ran = e; nodes = h .nodes; edges = h .edges })
 
   -- no refusal
-  module _ (few : badThreads count ≡ false) (ns′ es′ : List (List ℕ)) (cs : List ℕ) (g : Graphed b ns′ es′ cs) where
+  module _ (ns′ es′ : List (List ℕ)) (cs : List ℕ) (g : Fills m count tables rooms ns′ es′ cs) where
     none-refused : threadsRefused (threadRefusal start rooms) count ≡ none
-    none-refused = sym (threads-first few) ∙ g .fine
+    none-refused = sym refused-is ∙ g .fine
+
+    pub few : count ≤ 4
+    unfolding threadsRefused
+    few = few-threads count (go (badThreads count) refl)
+      where
+        go : (b : Bool) → badThreads count ≡ b → badThreads count ≡ false
+        go true e = let z : _≡_ {A = Option Bad} none (some (record { thread = 0; refusal = R.BadThreads })) = sym none-refused ∙ rw (e, threadsRefused) in absurd (not-some z)
+        go false e = e
 
     free : (t : ℕ) → t < count → threadRefusal start rooms t ≡ none
     free = none-bad (threadRefusal start rooms) count .0 none-refused .2
@@ -156,7 +158,7 @@ module _ (m count : ℕ) (tables : List (List ℕ)) (n0 n1 n2 n3 e0 e1 e2 e3 M a
     same-step : (t c : ℕ) (s : In Generated) → t < count → soughtStep (four (λ t. edgeTable (b t))) t c s ≡ generatedStep (edgeTable (builtFor start rooms t)) c s
     unfolding soughtStep
     same-step t c s h =
-        let l : count ≤ 4 = few-threads count few in
+        let l : count ≤ 4 = few in
         let e : getD (four (λ t. edgeTable (b t))) t [] ≡ edgeTable (builtFor start rooms t) = at-four (λ t. edgeTable (b t)) [] t (omega arith) ∙ ap edgeTable (is-built t h) in
         ap (λ (table : List ℕ). taken (searched table c (s .memory) (s .own))) e ∙ same-search (edgeTable (builtFor start rooms t)) (is-sorted t h) c s
 
@@ -166,7 +168,7 @@ module _ (m count : ℕ) (tables : List (List ℕ)) (n0 n1 n2 n3 e0 e1 e2 e3 M a
     same-stands : stand ≡ standGenerated start rooms
     unfolding standGenerated startWorld
     same-stands =
-        let l : count ≤ 4 = few-threads count few in
+        let l : count ≤ 4 = few in
         run-same count (soughtStep (four (λ t. edgeTable (b t)))) (λ t. generatedStep (edgeTable (builtFor start rooms t))) same-step (items sched) 0 (world count M (startFour all)) (rw (length-take-le count (startFour all) l) (omega arith))
         ∙ ap (λ (ts : List Generated). run (λ t. generatedStep (edgeTable (builtFor start rooms t))) (items sched) 0 (record { memory = M; threads = ts })) (starts m tables M all sched count l)
 
@@ -192,7 +194,7 @@ module _ (m count : ℕ) (tables : List (List ℕ)) (n0 n1 n2 n3 e0 e1 e2 e3 M a
     shows : (t : ℕ) (a : Generated) → AliveAt t a → stateAt (getD (four (λ t. b t .nodes)) t []) a ≡ threadState (shownGenerated (builtFor start rooms t .nodes) a)
     unfolding builtFor
     shows t a h =
-        let l : count ≤ 4 = few-threads count few in
+        let l : count ≤ 4 = few in
         let k = h .0 in
         let e : getD (four (λ t. b t .nodes)) t [] ≡ build m (getD tables t []) (nodeRoom rooms t) (edgeRoom rooms t) .nodes = at-four (λ t. b t .nodes) [] t (omega arith) ∙ ap (λ (x : Result). x .nodes) (is-built t k) in
         rw e (state-is (build m (getD tables t []) (nodeRoom rooms t) (edgeRoom rooms t) .nodes) a (alive-readable m (getD tables t []) (nodeRoom rooms t) (edgeRoom rooms t) a (h .1)))
@@ -212,7 +214,7 @@ module _ (m count : ℕ) (tables : List (List ℕ)) (n0 n1 n2 n3 e0 e1 e2 e3 M a
       shown-all : fourStates count N threads ≡ map threadState (resultGenerated start rooms (standGenerated start rooms) .state .threads)
       unfolding resultGenerated shownState
       shown-all =
-          let l : count ≤ 4 = few-threads count few in
+          let l : count ≤ 4 = few in
           let p : length threads ≡ count = h .present in
           ap (λ (k : ℕ). fourStates k N threads) (sym p)
           ∙ four-shown N (λ t. shownGenerated (builtFor start rooms t .nodes)) AliveAt shows threads (omega arith) (stands-alive p)
@@ -261,3 +263,20 @@ module _ (b : ℕ → Result) (e0 e1 e2 e3 : List ℕ) (c0 c1 c2 c3 : ℕ) (p : 
       let q2 : c2 ≡ edgeCount (b 2) = cc in
       let q3 : c3 ≡ edgeCount (b 3) = cc in
       (rw (p0, q0) (h 0), rw (p1, q1) (h 1), rw (p2, q2) (h 2), rw (p3, q3) (h 3))
+
+-- From what the rooms hold: the tables may be cut, and the run by them is the run.
+module _ (m count : ℕ) (tables : List (List ℕ)) (n0 n1 n2 n3 e0 e1 e2 e3 M all sched : List ℕ) (ns : List (List ℕ)) (d0 d1 d2 d3 : List ℕ) (c0 c1 c2 c3 : ℕ)
+    (g : Fills m count tables (rooms m count tables n0 n1 n2 n3 e0 e1 e2 e3 M all sched) ns (d0 ∷ d1 ∷ d2 ∷ d3 ∷ []) (c0 ∷ c1 ∷ c2 ∷ c3 ∷ [])) where
+  abbrev lent : Rooms
+  lent = rooms m count tables n0 n1 n2 n3 e0 e1 e2 e3 M all sched
+
+  pub go-within : (count ≤ 4) × (7 * c0 ≤ length d0) × (7 * c1 ≤ length d1) × (7 * c2 ≤ length d2) × (7 * c3 ≤ length d3)
+  go-within =
+      let w = cuts-within (madeFor m count tables lent) d0 d1 d2 d3 c0 c1 c2 c3 (g .edges) (g .counts) (λ t. made-within m (getD tables t []) (nodeRoom lent t) (edgeRoom lent t) (ltb t count)) in
+      (few m count tables n0 n1 n2 n3 e0 e1 e2 e3 M all sched ns (d0 ∷ d1 ∷ d2 ∷ d3 ∷ []) (c0 ∷ c1 ∷ c2 ∷ c3 ∷ []) g, w .0, w .1, w .2, w .3)
+
+  pub ran-gone : (x : Ran)
+      → Goes count (λ t. getD ns t []) (run (soughtStep (firstEdges c0 d0 ∷ firstEdges c1 d1 ∷ firstEdges c2 d2 ∷ firstEdges c3 d3 ∷ [])) (items sched) 0 (world count M (startFour all))) x
+      → Runs (result m count tables n0 n1 n2 n3 e0 e1 e2 e3 M all sched) ns (d0 ∷ d1 ∷ d2 ∷ d3 ∷ []) x
+  ran-gone x h =
+      ran-steps m count tables n0 n1 n2 n3 e0 e1 e2 e3 M all sched ns (d0 ∷ d1 ∷ d2 ∷ d3 ∷ []) (c0 ∷ c1 ∷ c2 ∷ c3 ∷ []) g _ (cut-tables (madeFor m count tables lent) d0 d1 d2 d3 c0 c1 c2 c3 (g .edges) (g .counts)) x h

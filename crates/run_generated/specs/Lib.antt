@@ -1,4 +1,2 @@
 pub mod Threads
-pub mod States
-pub mod Graphs
 pub mod Ran

@@ -20,12 +20,45 @@ module _ {A : Type 0} where
   get-taken (a ∷ l) (suc n) zero d h k = refl
   get-taken (a ∷ l) (suc n) (suc t) d h k = get-taken l n t d (omega arith) (omega arith)
 
+  get-past-end : (l : List A) (n t : ℕ) → length l ≤ t → getElem? (take n l) t ≡ none
+  get-past-end [] zero t h = refl
+  get-past-end [] (suc n) t h = refl
+  get-past-end (a ∷ l) zero t h = refl
+  get-past-end (a ∷ l) (suc n) zero h = absurd (omega arith)
+  get-past-end (a ∷ l) (suc n) (suc t) h = get-past-end l n t (omega arith)
+
   pub get-past : (l : List A) (n t : ℕ) → n ≤ t → getElem? (take n l) t ≡ none
   get-past [] zero t h = refl
   get-past [] (suc n) t h = refl
   get-past (a ∷ l) zero t h = refl
   get-past (a ∷ l) (suc n) zero h = absurd (omega arith)
   get-past (a ∷ l) (suc n) (suc t) h = get-past l n t (omega arith)
+
+module _ {T : Type 0} (step : ℕ → ℕ → In T → Option (In T)) (count : ℕ) (M : List ℕ) (ts : List T) where
+  -- no such thread
+  pub takes-absent : (t c : ℕ) → count ≤ t → takes step (world count M ts) t c ≡ none
+  unfolding takes
+  takes-absent t c h = rw (get-past ts count t h)
+
+  pub takes-past : (t c : ℕ) → length ts ≤ t → takes step (world count M ts) t c ≡ none
+  unfolding takes
+  takes-past t c h = rw (get-past-end ts count t h)
+
+  goes-back : (t : ℕ) (x : In T) → t < count → back step (world count M ts) t x ≡ world count (x .memory) (set ts t (x .own))
+  unfolding back
+  goes-back t x h = rw (take-set-lt count ts t (x .own) h)
+
+  -- thread t is present
+  module _ (t c : ℕ) (d : T) (present : t < count) (there : t < length ts) where
+    stepping : (o : Option (In T)) → step t c (record { memory = M; own = getD ts t d }) ≡ o → takes step (world count M ts) t c ≡ Option·map (back step (world count M ts) t) o
+    unfolding takes
+    stepping o e = rw (get-taken ts count t d present there, e)
+
+    pub takes-none : step t c (record { memory = M; own = getD ts t d }) ≡ none → takes step (world count M ts) t c ≡ none
+    takes-none e = stepping none e
+
+    pub takes-some : (x : In T) → step t c (record { memory = M; own = getD ts t d }) ≡ some x → takes step (world count M ts) t c ≡ some (world count (x .memory) (set ts t (x .own)))
+    takes-some x e = stepping (some x) e ∙ ap some (goes-back t x present)
 
 module _ {T : Type 0} (step : ℕ → ℕ → In T → Option (In T)) (count : ℕ) (s : List ℕ) where
   -- what is left of the run from place p of the schedule on, with n items done
@@ -58,54 +91,32 @@ module _ {T : Type 0} (step : ℕ → ℕ → In T → Option (In T)) (count : �
         let b : drop (suc p) s ≡ [] = drop-of-length-le s {i = suc p} (omega arith) in
         rw (a, b, items)
 
-    takes-none : (t : ℕ) → move step (record { thread = t; choice = none }) (world count M ts) ≡ none
+    moves-none : (t : ℕ) → move step (record { thread = t; choice = none }) (world count M ts) ≡ none
     unfolding move
-    takes-none t = refl
+    moves-none t = refl
 
-    takes-choice : (t c : ℕ) → move step (record { thread = t; choice = some c }) (world count M ts) ≡ takes step (world count M ts) t c
+    moves-choice : (t c : ℕ) → move step (record { thread = t; choice = some c }) (world count M ts) ≡ takes step (world count M ts) t c
     unfolding move
-    takes-choice t c = refl
-
-    takes-nobody : (t c : ℕ) → count ≤ t → takes step (world count M ts) t c ≡ none
-    unfolding takes
-    takes-nobody t c h = rw (get-past ts count t h)
-
-    goes-back : (t : ℕ) (x : In T) → t < count → back step (world count M ts) t x ≡ world count (x .memory) (set ts t (x .own))
-    unfolding back
-    goes-back t x h = rw (take-set-lt count ts t (x .own) h)
+    moves-choice t c = refl
 
     module _ (h : p + 1 < length s) where
-      stops-at : takes step (world count M ts) (s ! p) (s ! (p + 1)) ≡ none → left p n M ts ≡ stopped n M ts
-      stops-at e =
+      -- the item names no step
+      pub turn-refused : takes step (world count M ts) (s ! p) (s ! (p + 1)) ≡ none → left p n M ts ≡ stopped n M ts
+      turn-refused e =
           ap (λ (ks : List Item). run step ks n (world count M ts)) (item-first h)
-          ∙ run-stop step itemAt (items (drop (p + 2) s)) n (world count M ts) (takes-choice (s ! p) (s ! (p + 1)) ∙ e)
+          ∙ run-stop step itemAt (items (drop (p + 2) s)) n (world count M ts) (moves-choice (s ! p) (s ! (p + 1)) ∙ e)
 
-      -- no such thread
-      pub turn-absent : count ≤ s ! p → left p n M ts ≡ stopped n M ts
-      turn-absent g = stops-at (takes-nobody (s ! p) (s ! (p + 1)) g)
-
-      module _ (d : T) (present : s ! p < count) (there : s ! p < length ts) (o : Option (In T))
-          (e : step (s ! p) (s ! (p + 1)) (record { memory = M; own = getD ts (s ! p) d }) ≡ o) where
-        stepping : takes step (world count M ts) (s ! p) (s ! (p + 1)) ≡ Option·map (back step (world count M ts) (s ! p)) o
-        unfolding takes
-        stepping = rw (get-taken ts count (s ! p) d present there, e)
-
-        -- no such choice
-        pub turn-refused : o ≡ none → left p n M ts ≡ stopped n M ts
-        turn-refused k = stops-at (stepping ∙ ap (Option·map (back step (world count M ts) (s ! p))) k)
-
-        -- the item is done
-        pub turn-done : (x : In T) → o ≡ some x → left p n M ts ≡ left (p + 2) (n + 1) (x .memory) (set ts (s ! p) (x .own))
-        turn-done x k =
-            ap (λ (ks : List Item). run step ks n (world count M ts)) (item-first h)
-            ∙ run-step step itemAt (items (drop (p + 2) s)) n (world count M ts) (world count (x .memory) (set ts (s ! p) (x .own)))
-            (takes-choice (s ! p) (s ! (p + 1)) ∙ stepping ∙ ap (Option·map (back step (world count M ts) (s ! p))) k ∙ ap some (goes-back (s ! p) x present))
-            ∙ ap (λ (k : ℕ). run step (items (drop (p + 2) s)) k (world count (x .memory) (set ts (s ! p) (x .own)))) (sym (add-one n))
+      -- the item is done
+      pub turn-done : (M′ : List ℕ) (ts′ : List T) → takes step (world count M ts) (s ! p) (s ! (p + 1)) ≡ some (world count M′ ts′) → left p n M ts ≡ left (p + 2) (n + 1) M′ ts′
+      turn-done M′ ts′ e =
+          ap (λ (ks : List Item). run step ks n (world count M ts)) (item-first h)
+          ∙ run-step step itemAt (items (drop (p + 2) s)) n (world count M ts) (world count M′ ts′) (moves-choice (s ! p) (s ! (p + 1)) ∙ e)
+          ∙ ap (λ (k : ℕ). run step (items (drop (p + 2) s)) k (world count M′ ts′)) (sym (add-one n))
 
     -- a lone last number
     pub turn-lone : p < length s → length s ≤ p + 1 → left p n M ts ≡ stopped n M ts
     turn-lone h g =
-        ap (λ (ks : List Item). run step ks n (world count M ts)) (item-lone h g) ∙ run-stop step (record { thread = s ! p; choice = none }) [] n (world count M ts) (takes-none (s ! p))
+        ap (λ (ks : List Item). run step ks n (world count M ts)) (item-lone h g) ∙ run-stop step (record { thread = s ! p; choice = none }) [] n (world count M ts) (moves-none (s ! p))
 
     -- no item is left
     pub turn-end : length s ≤ p → left p n M ts ≡ ended n M ts
@@ -116,5 +127,4 @@ module _ {T : Type 0} (step : ℕ → ℕ → In T → Option (In T)) (count : �
 pub record Standing {T : Type 0} (step : ℕ → ℕ → In T → Option (In T)) (count : ℕ) (s M₀ : List ℕ) (ts₀ : List T) (M : List ℕ) (ts : List T) (p n : ℕ) : Type 0 where
   pub inside : p ≤ length s
   pub few : n ≤ p
-  pub four : length ts ≡ 4
   pub rest : left step count s 0 0 M₀ ts₀ ≡ left step count s p n M ts

@@ -10,6 +10,10 @@ use Rattle.runs.specs.Shown.{ShownThread, Shown, nobody}
 use Rattle.shown.specs.declared.ThreadState.{ThreadState}
 use Rattle.shown.specs.declared.Ran.{Ran}
 
+-- one of each of four
+abbrev pub four : {A : Type 0} → (ℕ → A) → List A
+four f = f 0 ∷ f 1 ∷ f 2 ∷ f 3 ∷ []
+
 -- the 16 registers of thread t, of 64
 abbrev pub cut : List ℕ → ℕ → List ℕ
 cut all t = take registers (drop (registers * t) all)

@@ -1,6 +1,10 @@
 // What both runs give back, as the code holds it.
 use runs::Ended;
 use thread::Line;
+use thread::Refusal;
+ghost use mathlib.Core.Path.{_≡_};
+ghost use Rattle.runs.specs.Shown.{zeroState};
+ghost use Rattle.shown.specs.Ran.{nobodyState, ranOf};
 
 // a thread as it is shown: the first `count` names (variables, or store lines) and values wait, in order; unused places are 0
 pub struct ThreadState {
@@ -16,4 +20,29 @@ pub struct Ran {
     pub ended: Ended,
     pub memory: [u32; 16],
     pub threads: [ThreadState; 4],
+}
+
+// a thread that is not there
+pub fn nobody() -> ThreadState
+    ensures { λ r. ⌜ r ≡ nobodyState ⌝ }
+{
+    ThreadState {
+        line: Line(0),
+        registers: [0u32; 16],
+        names: [0u32; 16],
+        values: [0u32; 16],
+        count: 0,
+    }
+}
+
+// "A refusal zeroes .. state and count"
+pub fn refused(t: u32, refusal: Refusal) -> Ran
+    ensures { λ r. ⌜ r ≡ ranOf (Ended.Refused t refusal) zeroState ⌝ }
+{
+    let nobody = nobody();
+    Ran {
+        ended: Ended::Refused(t, refusal),
+        memory: [0u32; 16],
+        threads: [nobody; 4],
+    }
 }

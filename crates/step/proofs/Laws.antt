@@ -53,7 +53,7 @@ module _ (table : List ℕ) (c : ℕ) (M : List ℕ) (own : Generated) where
   unfolding decided changeAlong applied generatedStep follow movedOf
   steps = go (edgeFor (edgesIn table) (own .node) c (own .registers))
     where
-      go : (x : Option Edge) → applied (changeAlong (taken x) M own) M own ≡ movedOf (Option·map (follow (record { memory = M; own = own })) x) M own
+      go : (x : Option Edge) → applied (changeAlong (taken x) M (own .registers) (own .auxiliaries)) M own ≡ movedOf (Option·map (follow (record { memory = M; own = own })) x) M own
       go none = refl
       go (some e) = acts (e .op) (e .to) M own
 

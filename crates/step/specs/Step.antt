@@ -21,6 +21,7 @@ use Rattle.edges.specs.Sought.{edgeSought}
 use Rattle.step.specs.declared.Change.{Change}
 use Rattle.step.specs.declared.Change.the-variants as C
 use Rattle.step.specs.declared.Moved.{Moved}
+use Rattle.step.specs.declared.Stepped.{Stepped}
 
 -- what an operation changes on the way to a node, of memory M, registers R and auxiliary values A
 unfoldable pub changeOf : Op → Node → List ℕ → List ℕ → List ℕ → Change
@@ -40,20 +41,20 @@ changeOf (O.IfZ r) to M R A = C.Go to
 changeOf (O.Put x l) to M R A = C.Memory to x (waitingValue A l)
 
 -- what changes along an edge, if one was found
-unfoldable pub changeAlong : Taken → List ℕ → Generated → Change
+unfoldable pub changeAlong : Taken → List ℕ → List ℕ → List ℕ → Change
 unfolding changeOf
-changeAlong T.Nothing M own = C.Nothing
-changeAlong (T.Along e) M own = changeOf (e .op) (e .to) M (own .registers) (own .auxiliaries)
+changeAlong T.Nothing M R A = C.Nothing
+changeAlong (T.Along e) M R A = changeOf (e .op) (e .to) M R A
 
 -- what a choice changes, by the edge records of a table
 unfoldable pub decided : List ℕ → ℕ → List ℕ → Generated → Change
 unfolding edgesIn edgeFor changeAlong
-decided table c M own = changeAlong (taken (edgeFor (edgesIn table) (own .node) c (own .registers))) M own
+decided table c M own = changeAlong (taken (edgeFor (edgesIn table) (own .node) c (own .registers))) M (own .registers) (own .auxiliaries)
 
 -- the same by the search for tables in the order of their nodes
 unfoldable pub decidedSought : List ℕ → ℕ → List ℕ → Generated → Change
 unfolding edgeSought changeAlong
-decidedSought table c M own = changeAlong (taken (edgeSought table (own .node) c (own .registers))) M own
+decidedSought table c M own = changeAlong (taken (edgeSought table (own .node) c (own .registers))) M (own .registers) (own .auxiliaries)
 
 abbrev pub movedTo : List ℕ → Node → List ℕ → List ℕ → Moved
 movedTo M to R A = record { ok = true; memory = M; own = record { node = to; registers = R; auxiliaries = A } }
@@ -74,3 +75,15 @@ applied (C.Swap to x v r) M own = movedTo (set M x v) to (set (own .registers) r
 unfoldable pub movedOf : Option (In Generated) → List ℕ → Generated → Moved
 movedOf none M own = stays M own
 movedOf (some s) M own = record { ok = true; memory = s .memory; own = s .own }
+
+-- the step by the search: what is decided, applied
+unfoldable pub searched : List ℕ → ℕ → List ℕ → Generated → Moved
+unfolding decidedSought applied
+searched table c M own = applied (decidedSought table c M own) M own
+
+-- a thread whose values are lent, and what a step in place leaves of memory, registers and auxiliary values
+abbrev pub held : Node → List ℕ → List ℕ → Generated
+held n R A = record { node = n; registers = R; auxiliaries = A }
+
+abbrev pub left : Stepped → List ℕ → List ℕ → List ℕ → Moved
+left s M R A = record { ok = s .ok; memory = M; own = held (s .node) R A }

@@ -8,8 +8,9 @@ ghost use mathlib.Core.Path.{_≡_};
 ghost use mathlib.Core.Bool.{cond};
 ghost use lib.ListN.{set};
 ghost use lib.Dec.{eqb};
+ghost use Rattle.thread.specs.Numbers.{_!_};
 ghost use Rattle.generated.specs.Machine.{waitingValue, generatedStep};
-ghost use Rattle.step.specs.Step.{changeOf, changeAlong, decided, decidedSought, movedTo, applied, movedOf};
+ghost use Rattle.step.specs.Step.{changeOf, changeAlong, decided, decidedSought, applied, movedOf, held, left, searched};
 
 // What a step changes, and the node it goes to: nothing else, a register, a line's auxiliary, a variable, or a variable and
 // the register that a cas sets to 1. Nothing: there is no step.
@@ -29,43 +30,28 @@ pub struct Moved {
     pub own: Generated,
 }
 
-// the registers, or the memory, with v at place i; past the end nothing changes
-pub fn written(values: [u32; 16], i: u32, v: u32) -> [u32; 16]
-    ensures { λ r. ⌜ r ≡ set values i v ⌝ }
-{
-    if edges::REGISTERS <= i {
-        return values;
-    }
-    let at = i as usize;
-    let mut next = values;
-    next[at] = v;
-    next
+// what a step in place answers beside the values it leaves: whether there was one, and the thread's node then
+pub struct Stepped {
+    pub ok: bool,
+    pub node: Node,
 }
 
-// the auxiliary values with v for a line; past the last line nothing changes
-pub fn kept(auxiliaries: [u32; 64], line: Line, v: u32) -> [u32; 64]
-    ensures { λ r. ⌜ r ≡ set auxiliaries (line .0) v ⌝ }
+// v at place i; past the end nothing changes
+pub fn write(values: &mut [u32], i: u32, v: u32)
+    ensures { λ _. ⌜ now (values .exit) ≡ set (now (values .entry)) i v ⌝ }
 {
-    let i = line.0;
-    if edges::LINES <= i {
-        return auxiliaries;
-    }
     let at = i as usize;
-    let mut next = auxiliaries;
-    next[at] = v;
-    next
+    if values.len() <= at {
+        return;
+    }
+    values[at] = v;
 }
 
 // where the value of a waiting store comes from: the auxiliary of its line
-pub fn waiting_value(auxiliaries: [u32; 64], line: Line) -> u32
-    ensures { λ r. ⌜ r ≡ waitingValue auxiliaries line ⌝ }
+pub fn waiting_value(auxiliaries: &[u32], line: Line) -> u32
+    ensures { λ r. ⌜ r ≡ waitingValue (now (auxiliaries .entry)) line ⌝ }
 {
-    let i = line.0;
-    if edges::LINES <= i {
-        return 0;
-    }
-    let at = i as usize;
-    auxiliaries[at]
+    thread::number(auxiliaries, line.0 as usize)
 }
 
 // a cas: when memory x equals s, x becomes t and the register 1; else the register becomes 0
@@ -78,40 +64,41 @@ fn swapped(to: Node, r: u32, x: u32, seen: u32, wanted: u32, next: u32) -> Chang
     Change::Register(to, r, 0)
 }
 
+// the value of register or variable i; 0 past the end
+fn value(values: &[u32], i: u32) -> u32
+    ensures { λ r. ⌜ r ≡ now (values .entry) ! i ⌝ }
+{
+    thread::number(values, i as usize)
+}
+
 // what an operation changes on the way to a node
-pub fn change_of(
-    op: Op,
-    to: Node,
-    memory: [u32; 16],
-    registers: [u32; 16],
-    auxiliaries: [u32; 64],
-) -> Change
-    ensures { λ c. ⌜ c ≡ changeOf op to memory registers auxiliaries ⌝ }
+pub fn change_of(op: Op, to: Node, memory: &[u32], registers: &[u32], auxiliaries: &[u32]) -> Change
+    ensures { λ c. ⌜ c ≡ changeOf op to (now (memory .entry)) (now (registers .entry)) (now (auxiliaries .entry)) ⌝ }
 {
     match op {
         Op::Set(r, v) => Change::Register(to, r, v),
-        Op::Copy(r, s) => Change::Register(to, r, edges::value(registers, s)),
+        Op::Copy(r, s) => Change::Register(to, r, value(registers, s)),
         Op::Add(r, s, t) => Change::Register(
             to,
             r,
-            thread::add32(edges::value(registers, s), edges::value(registers, t)),
+            thread::add32(value(registers, s), value(registers, t)),
         ),
         Op::Sub(r, s, t) => Change::Register(
             to,
             r,
-            thread::sub32(edges::value(registers, s), edges::value(registers, t)),
+            thread::sub32(value(registers, s), value(registers, t)),
         ),
-        Op::Load(r, x) => Change::Register(to, r, edges::value(memory, x)),
+        Op::Load(r, x) => Change::Register(to, r, value(memory, x)),
         Op::Take(r, l) => Change::Register(to, r, waiting_value(auxiliaries, l)),
-        Op::KeepR(l, r) => Change::Auxiliary(to, l, edges::value(registers, r)),
+        Op::KeepR(l, r) => Change::Auxiliary(to, l, value(registers, r)),
         Op::KeepC(l, v) => Change::Auxiliary(to, l, v),
         Op::Cas(r, x, s, t) => swapped(
             to,
             r,
             x,
-            edges::value(memory, x),
-            edges::value(registers, s),
-            edges::value(registers, t),
+            value(memory, x),
+            value(registers, s),
+            value(registers, t),
         ),
         Op::Put(x, l) => Change::Memory(to, x, waiting_value(auxiliaries, l)),
         Op::Pass => Change::Go(to),
@@ -121,15 +108,13 @@ pub fn change_of(
 }
 
 // what changes along an edge, if one was found
-pub fn change_along(found: Taken, memory: [u32; 16], own: Generated) -> Change
-    ensures { λ c. ⌜ c ≡ changeAlong found memory own ⌝ }
+pub fn change_along(found: Taken, memory: &[u32], registers: &[u32], auxiliaries: &[u32]) -> Change
+    ensures { λ c. ⌜ c ≡ changeAlong found (now (memory .entry)) (now (registers .entry)) (now (auxiliaries .entry)) ⌝ }
 {
     let Taken::Along(e) = found else {
         return Change::Nothing;
     };
     let op = e.op;
-    let registers = own.registers;
-    let auxiliaries = own.auxiliaries;
     change_of(op, e.to, memory, registers, auxiliaries)
 }
 
@@ -138,37 +123,56 @@ pub fn decide(table: &[u32], choice: u32, memory: [u32; 16], own: Generated) -> 
     ensures { λ c. ⌜ c ≡ decided (now (table .entry)) choice memory own ⌝ }
 {
     let registers = own.registers;
-    change_along(
-        edges::edge_for(table, own.node, choice, registers),
-        memory,
-        own,
-    )
+    let auxiliaries = own.auxiliaries;
+    let found = edges::edge_for(table, own.node, choice, registers);
+    change_along(found, &memory, &registers, &auxiliaries)
 }
 
-// the same by the search for tables in the order of their nodes
-pub fn decide_sought(table: &[u32], choice: u32, memory: [u32; 16], own: Generated) -> Change
-    ensures { λ c. ⌜ c ≡ decidedSought (now (table .entry)) choice memory own ⌝ }
+// the same by the search for tables in the order of their nodes, of a thread whose values are lent
+pub fn decide_in(
+    table: &[u32],
+    choice: u32,
+    node: Node,
+    memory: &[u32],
+    registers: &[u32],
+    auxiliaries: &[u32],
+) -> Change
+    ensures { λ c. ⌜ c ≡ decidedSought (now (table .entry)) choice (now (memory .entry)) (held node (now (registers .entry)) (now (auxiliaries .entry))) ⌝ }
 {
-    let registers = own.registers;
-    change_along(
-        edges::edge_sought(table, own.node, choice, registers),
-        memory,
-        own,
-    )
+    let found = edges::edge_sought_in(table, node, choice, registers);
+    change_along(found, memory, registers, auxiliaries)
 }
 
-// a step that was done
-fn moved_to(memory: [u32; 16], to: Node, registers: [u32; 16], auxiliaries: [u32; 64]) -> Moved
-    ensures { λ m. ⌜ m ≡ movedTo memory to registers auxiliaries ⌝ }
+// a change applied where the values lie
+pub fn apply_in(
+    change: Change,
+    node: Node,
+    memory: &mut [u32],
+    registers: &mut [u32],
+    auxiliaries: &mut [u32],
+) -> Stepped
+    ensures { λ s. ⌜ left s (now (memory .exit)) (now (registers .exit)) (now (auxiliaries .exit)) ≡ applied change (now (memory .entry)) (held node (now (registers .entry)) (now (auxiliaries .entry))) ⌝ }
 {
-    Moved {
-        ok: true,
-        memory,
-        own: Generated {
-            node: to,
-            registers,
-            auxiliaries,
-        },
+    match change {
+        Change::Nothing => Stepped { ok: false, node },
+        Change::Go(to) => Stepped { ok: true, node: to },
+        Change::Register(to, r, v) => {
+            write(registers, r, v);
+            Stepped { ok: true, node: to }
+        }
+        Change::Auxiliary(to, l, v) => {
+            write(auxiliaries, l.0, v);
+            Stepped { ok: true, node: to }
+        }
+        Change::Memory(to, x, v) => {
+            write(memory, x, v);
+            Stepped { ok: true, node: to }
+        }
+        Change::Swap(to, x, v, r) => {
+            write(memory, x, v);
+            write(registers, r, 1);
+            Stepped { ok: true, node: to }
+        }
     }
 }
 
@@ -176,24 +180,25 @@ fn moved_to(memory: [u32; 16], to: Node, registers: [u32; 16], auxiliaries: [u32
 pub fn apply(change: Change, memory: [u32; 16], own: Generated) -> Moved
     ensures { λ m. ⌜ m ≡ applied change memory own ⌝ }
 {
-    let registers = own.registers;
-    let auxiliaries = own.auxiliaries;
-    match change {
-        Change::Nothing => Moved {
-            ok: false,
-            memory,
-            own,
-        },
-        Change::Go(to) => moved_to(memory, to, registers, auxiliaries),
-        Change::Register(to, r, v) => moved_to(memory, to, written(registers, r, v), auxiliaries),
-        Change::Auxiliary(to, l, v) => moved_to(memory, to, registers, kept(auxiliaries, l, v)),
-        Change::Memory(to, x, v) => moved_to(written(memory, x, v), to, registers, auxiliaries),
-        Change::Swap(to, x, v, r) => moved_to(
-            written(memory, x, v),
-            to,
-            written(registers, r, 1),
+    let mut after = memory;
+    let mut registers = own.registers;
+    let mut auxiliaries = own.auxiliaries;
+    let s = apply_in(
+        change,
+        own.node,
+        &mut after,
+        &mut registers,
+        &mut auxiliaries,
+    );
+    let node = s.node;
+    Moved {
+        ok: s.ok,
+        memory: after,
+        own: Generated {
+            node,
+            registers,
             auxiliaries,
-        ),
+        },
     }
 }
 
@@ -204,9 +209,27 @@ pub fn step(table: &[u32], choice: u32, memory: [u32; 16], own: Generated) -> Mo
     apply(decide(table, choice, memory, own), memory, own)
 }
 
-// the same by the search for tables in the order of their nodes
-pub fn step_sought(table: &[u32], choice: u32, memory: [u32; 16], own: Generated) -> Moved
-    ensures { λ m. ⌜ m ≡ applied (decidedSought (now (table .entry)) choice memory own) memory own ⌝ }
+// the step by the search for tables in the order of their nodes, done where the values lie
+pub fn step_in(
+    table: &[u32],
+    choice: u32,
+    node: Node,
+    memory: &mut [u32],
+    registers: &mut [u32],
+    auxiliaries: &mut [u32],
+) -> Stepped
+    ensures { λ s. ⌜ left s (now (memory .exit)) (now (registers .exit)) (now (auxiliaries .exit)) ≡ searched (now (table .entry)) choice (now (memory .entry)) (held node (now (registers .entry)) (now (auxiliaries .entry))) ⌝ }
 {
-    apply(decide_sought(table, choice, memory, own), memory, own)
+    let change = decide_in(table, choice, node, memory, registers, auxiliaries);
+    apply_in(change, node, memory, registers, auxiliaries)
+}
+
+// the same by value
+pub fn step_sought(table: &[u32], choice: u32, memory: [u32; 16], own: Generated) -> Moved
+    ensures { λ m. ⌜ m ≡ searched (now (table .entry)) choice memory own ⌝ }
+{
+    let registers = own.registers;
+    let auxiliaries = own.auxiliaries;
+    let change = decide_in(table, choice, own.node, &memory, &registers, &auxiliaries);
+    apply(change, memory, own)
 }

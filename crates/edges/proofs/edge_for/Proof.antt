@@ -19,7 +19,10 @@ abbrev μ-loop : tie.MeasureT-loop
 μ-loop table node choice registers records k₀ k = records - k
 
 loop-holds : tie.Need-loop-holds Inv-loop μ-loop
-loop-holds c = let a = c .before .args in (zero-le, scan-all (a .table .now) (a .node) (a .choice) (a .registers))
+loop-holds c = let a = c .before .args in (zero-le, scan-all (a .table .now) (a .node) (a .choice) (a .t4))
+
+slice-aggregate-fits : tie.Need-slice-aggregate-fits Inv-loop μ-loop
+slice-aggregate-fits c = search needs
 
 fits-requires : tie.Need-fits-requires Inv-loop μ-loop
 fits-requires c κs = search needs
@@ -31,9 +34,9 @@ returns : tie.Need-returns Inv-loop μ-loop
 returns c =
     let known = c .before in
     let called = known .before .before in
-    let h = called .before .before in
+    let h = called .before .before .before in
     let a = h .before .before .args in
-    scan-found (a .table .now) (a .node) (a .choice) (a .registers) (h .loop .k) (recordsIn 7 (a .table .now)) (called .fits2 .result) (called .before .loop-test .taken) (called .fits2 .ensures) (known .e .given .0 .0) (known .e .given .1)
+    scan-found (a .table .now) (a .node) (a .choice) (a .t4) (h .loop .k) (recordsIn 7 (a .table .now)) (called .fits2 .result) (called .before .before .loop-test .taken) (called .fits2 .ensures) (known .e .given .0 .0) (known .e .given .1)
     ∙ ap taken (h .loop .inv .1)
 
 enum-told : tie.Need-enum-told Inv-loop μ-loop
@@ -48,10 +51,10 @@ loop-less c = search needs
 loop-again : tie.Need-loop-again Inv-loop μ-loop
 loop-again c =
     let called = c .before .before in
-    let h = called .before .before in
+    let h = called .before .before .before in
     let a = h .before .before .args in (
       omega arith,
-      scan-on (a .table .now) (a .node) (a .choice) (a .registers) (h .loop .k) (recordsIn 7 (a .table .now)) (called .fits2 .result) (called .before .loop-test .taken) (called .fits2 .ensures) (c .enum-told .given .1)
+      scan-on (a .table .now) (a .node) (a .choice) (a .t4) (h .loop .k) (recordsIn 7 (a .table .now)) (called .fits2 .result) (called .before .before .loop-test .taken) (called .fits2 .ensures) (c .enum-told .given .1)
           ∙ h .loop .inv .1,
     )
 
@@ -59,7 +62,7 @@ returns-2 : tie.Need-returns-2 Inv-loop μ-loop
 returns-2 c =
     let h = c .before in
     let a = h .before .before .args in
-    scan-end (a .table .now) (a .node) (a .choice) (a .registers) (h .loop .k) (recordsIn 7 (a .table .now)) (c .loop-test .left) ∙ ap taken (h .loop .inv .1)
+    scan-end (a .table .now) (a .node) (a .choice) (a .t4) (h .loop .k) (recordsIn 7 (a .table .now)) (c .loop-test .left) ∙ ap taken (h .loop .inv .1)
 
 pub edge-for-spec : {M : Type 1} → statement M
 edge-for-spec =
@@ -68,6 +71,7 @@ edge-for-spec =
     Inv-loop
     μ-loop
     loop-holds
+    slice-aggregate-fits
     fits-requires
     enum-known-e
     returns

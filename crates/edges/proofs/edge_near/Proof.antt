@@ -31,8 +31,8 @@ returns : tie.Need-returns Inv-loop μ-loop
 returns c =
     let tested = c .before .before .before in
     let h = tested .before in
-    let a = h .before .before .args in
-    near-other (a .table .now) (a .node) (a .choice) (a .registers) (h .loop .k) (recordsIn 7 (a .table .now)) (tested .loop-test .taken) (c .if1 .taken) ∙ ap taken (h .loop .inv)
+    let a = h .before .before .before .args in
+    near-other (a .table .now) (a .node) (a .choice) (a .registers .now) (h .loop .k) (recordsIn 7 (a .table .now)) (tested .loop-test .taken) (c .if1 .taken) ∙ ap taken (h .loop .inv)
 
 fits-requires : tie.Need-fits-requires Inv-loop μ-loop
 fits-requires c κs = search needs
@@ -46,8 +46,8 @@ returns-2 c =
     let called = known .before .before in
     let tested = called .before .before .before .before in
     let h = tested .before in
-    let a = h .before .before .args in
-    near-found (a .table .now) (a .node) (a .choice) (a .registers) (h .loop .k) (recordsIn 7 (a .table .now)) (called .fits2 .result) (tested .loop-test .taken) (called .before .if1 .left) (called .fits2 .ensures) (known .e .given .0 .0) (known .e .given .1)
+    let a = h .before .before .before .args in
+    near-found (a .table .now) (a .node) (a .choice) (a .registers .now) (h .loop .k) (recordsIn 7 (a .table .now)) (called .fits2 .result) (tested .loop-test .taken) (called .before .if1 .left) (called .fits2 .ensures) (known .e .given .0 .0) (known .e .given .1)
     ∙ ap taken (h .loop .inv)
 
 enum-told : tie.Need-enum-told Inv-loop μ-loop
@@ -64,15 +64,15 @@ loop-again c =
     let called = c .before .before in
     let tested = called .before .before .before .before in
     let h = tested .before in
-    let a = h .before .before .args in
-    near-on (a .table .now) (a .node) (a .choice) (a .registers) (h .loop .k) (recordsIn 7 (a .table .now)) (called .fits2 .result) (tested .loop-test .taken) (called .before .if1 .left) (called .fits2 .ensures) (c .enum-told .given .1)
+    let a = h .before .before .before .args in
+    near-on (a .table .now) (a .node) (a .choice) (a .registers .now) (h .loop .k) (recordsIn 7 (a .table .now)) (called .fits2 .result) (tested .loop-test .taken) (called .before .if1 .left) (called .fits2 .ensures) (c .enum-told .given .1)
     ∙ h .loop .inv
 
 returns-3 : tie.Need-returns-3 Inv-loop μ-loop
 returns-3 c =
     let h = c .before in
-    let a = h .before .before .args in
-    near-end (a .table .now) (a .node) (a .choice) (a .registers) (h .loop .k) (recordsIn 7 (a .table .now)) (c .loop-test .left) ∙ ap taken (h .loop .inv)
+    let a = h .before .before .before .args in
+    near-end (a .table .now) (a .node) (a .choice) (a .registers .now) (h .loop .k) (recordsIn 7 (a .table .now)) (c .loop-test .left) ∙ ap taken (h .loop .inv)
 
 pub edge-near-spec : {M : Type 1} → statement M
 edge-near-spec =

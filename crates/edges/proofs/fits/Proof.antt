@@ -15,8 +15,8 @@ shared-slice-read-if1 c = search needs
 
 returns : tie.Need-returns
 returns c =
-    let a = c .before .before .before .before .args in
-    other-node (a .table .now) (a .k) (a .node) (a .choice) (a .registers) (c .if1 .taken)
+    let a = c .before .before .before .before .before .args in
+    other-node (a .table .now) (a .k) (a .node) (a .choice) (a .registers .now) (c .if1 .taken)
 
 add-op-of : tie.Need-add-op-of
 add-op-of c = search needs
@@ -75,8 +75,8 @@ enum-told c = search needs
 returns-2 : tie.Need-returns-2
 returns-2 c =
     let called = c .before .before in
-    let a = called .before .before .before .before .before .before .before .before .before .before .args in
-    no-edge (a .table .now) (a .k) (a .node) (a .choice) (a .registers) (called .op-of .result) (called .op-of .ensures) (c .enum-told .given .1)
+    let a = called .before .before .before .before .before .before .before .before .before .before .before .args in
+    no-edge (a .table .now) (a .k) (a .node) (a .choice) (a .registers .now) (called .op-of .result) (called .op-of .ensures) (c .enum-told .given .1)
 
 serves-requires : tie.Need-serves-requires
 serves-requires c κs = search needs
@@ -96,16 +96,16 @@ returns-3 c =
     let known = tested .before .before .before in
     let called = known .before .before in
     let same = called .before .before .before .before .before .before in
-    let a = same .before .before .before .before .args in
-    fits (a .table .now) (a .k) (a .node) (a .choice) (a .registers) (called .op-of .result) (called .op-of .ensures) (known .op .given .0 .0) (tested .before .serves .result) (known .op .given .1) (same .if1 .left) (tested .before .serves .ensures) (tested .if2 .taken)
+    let a = same .before .before .before .before .before .args in
+    fits (a .table .now) (a .k) (a .node) (a .choice) (a .registers .now) (called .op-of .result) (called .op-of .ensures) (known .op .given .0 .0) (tested .before .serves .result) (known .op .given .1) (same .if1 .left) (tested .before .serves .ensures) (tested .if2 .taken)
 
 returns-4 : tie.Need-returns-4
 returns-4 c =
     let known = c .before .before .before in
     let called = known .before .before in
     let same = called .before .before .before .before .before .before in
-    let a = same .before .before .before .before .args in
-    other-choice (a .table .now) (a .k) (a .node) (a .choice) (a .registers) (called .op-of .result) (called .op-of .ensures) (known .op .given .0 .0) (c .before .serves .result) (known .op .given .1) (same .if1 .left) (c .before .serves .ensures) (c .if2 .left)
+    let a = same .before .before .before .before .before .args in
+    other-choice (a .table .now) (a .k) (a .node) (a .choice) (a .registers .now) (called .op-of .result) (called .op-of .ensures) (known .op .given .0 .0) (c .before .serves .result) (known .op .given .1) (same .if1 .left) (c .before .serves .ensures) (c .if2 .left)
 
 pub fits-spec : {M : Type 1} → statement M
 fits-spec =

@@ -10,8 +10,8 @@ choice-of-requires c κs = search needs
 returns : tie.Need-returns
 returns c =
     let called = c .before in
-    let a = called .before .args in
-    serves-not (a .choice) (a .registers) (a .op) (called .choice-of .result) (called .choice-of .ensures) (c .if1 .taken)
+    let a = called .before .before .args in
+    serves-not (a .choice) (a .registers .now) (a .op) (called .choice-of .result) (called .choice-of .ensures) (c .if1 .taken)
 
 test-holds-requires : tie.Need-test-holds-requires
 test-holds-requires c κs = search needs
@@ -19,8 +19,8 @@ test-holds-requires c κs = search needs
 returns-2 : tie.Need-returns-2
 returns-2 c =
     let called = c .before .before in
-    let a = called .before .args in
-    serves-tested (a .choice) (a .registers) (a .op) (called .choice-of .result) (called .choice-of .ensures) (c .test-holds .result) (c .before .if1 .left) (c .test-holds .ensures)
+    let a = called .before .before .args in
+    serves-tested (a .choice) (a .registers .now) (a .op) (called .choice-of .result) (called .choice-of .ensures) (c .test-holds .result) (c .before .if1 .left) (c .test-holds .ensures)
 
 pub serves-spec : {M : Type 1} → statement M
 serves-spec = tie.close (tie.spec choice-of-requires returns test-holds-requires returns-2)

@@ -28,8 +28,8 @@ mul-own c = search needs
 array-copy-out-own : tie.Need-array-copy-out-own
 array-copy-out-own c = within (c .before .before)
 
-change-along-requires : tie.Need-change-along-requires
-change-along-requires c κs = search needs
+change-by-requires : tie.Need-change-by-requires
+change-by-requires c κs = search needs
 
 apply-requires : tie.Need-apply-requires
 apply-requires c κs = search needs
@@ -47,7 +47,7 @@ returns c =
     let i = d .before .before .before .before in
     let p = i .before in
     let s = p .before in
-    moved-done (s .args .m) (s .args .t) (full s) (p .present .result) (p .present .ensures) (i .if1 .taken) _ (s .args .found) (d .change-along .result) (a .apply .result) (d .change-along .ensures) (a .apply .ensures)
+    moved-done (s .args .m) (s .args .t) (full s) (p .present .result) (p .present .ensures) (i .if1 .taken) _ (s .args .found) (d .change-by .result) (a .apply .result) (d .change-by .ensures) (a .apply .ensures)
 
 returns-2 : tie.Need-returns-2
 returns-2 c =
@@ -62,7 +62,7 @@ moved-spec =
     present-requires
     mul-own
     array-copy-out-own
-    change-along-requires
+    change-by-requires
     apply-requires
     mul-threads
     array-set-from-threads

@@ -19,7 +19,7 @@ change-of-requires c κs = search needs
 
 returns-2 : tie.Need-returns-2
 unfolding changeAlong
-returns-2 c = rw (c .before .before .before .before .found .given .1) (c .change-of .ensures)
+returns-2 c = rw (c .before .before .found .given .1) (c .change-of .ensures)
 
 pub change-along-spec : {M : Type 1} → statement M
 change-along-spec =

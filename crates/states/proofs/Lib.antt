@@ -1,0 +1,2 @@
+pub mod Sixteen
+pub mod States
