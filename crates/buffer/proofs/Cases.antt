@@ -1,62 +1,31 @@
--- The code's step by its cases: what each test and each search leads to.
-use mathlib.Core.Path.{_≡_, refl, sym}
-use mathlib.Core.Option.{Option, none, some, Option·elim}
-use Prim.Native.Nat.{ℕ, zero, suc, _+_, _-_, _≤_, _<_, min}
+-- The code's step by its cases: what each test leads to.
+use mathlib.Core.Path.{_≡_, refl}
+use mathlib.Core.Logic.{_≢_}
+use mathlib.Core.Bool.{Bool, true, false, cond}
+use Prim.Native.Nat.{ℕ, _+_, _-_, _≤_, _<_, min}
 use native.Mathlib.Omega.{arith}
 use mathlib.Core.List.{List}
-use lib.ListN.{set, length-take}
-use Rattle.lists.proofs.Tests.{lt-true, lt-false}
+use lib.ListN.{length, set, take, length-take}
+use lib.Dec.{ltb}
+use Rattle.lists.proofs.Tests.{lt-true, lt-false, eq-false}
 use Rattle.thread.specs.declared.Line.{Line}
 use Rattle.thread.specs.declared.Model.{Model}
 use Rattle.thread.specs.declared.Instr.{Instr}
 use Rattle.thread.specs.Numbers.{_!_}
-use Rattle.pending.specs.declared.Found.{Found}
-use Rattle.pending.specs.declared.Found.the-variants as F
-use Rattle.pending.specs.Places.{placeFor, lastFor, readyAt, found}
+use Rattle.pending.specs.Places.{placeFor}
 use Rattle.pending.specs.Pending.{putIn, takeOut}
 use Rattle.pending.proofs.Places.{place-le}
 use Rattle.shown.specs.declared.ThreadState.{ThreadState}
-use Rattle.buffer.specs.declared.Change.the-variants as C
-use Rattle.buffer.specs.States.{stays, moves, withPair, withoutPair}
-use Rattle.buffer.specs.Step.{waitingVars, seenBy, programChange, putChange, decided, waits, puts}
+use Rattle.chosen.specs.declared.Change.{Change}
+use Rattle.chosen.specs.declared.Change.the-variants as C
+use Rattle.chosen.specs.Decide.{threadOf, waitingVars, decided}
+use Rattle.buffer.specs.declared.Turned.{Turned}
+use Rattle.buffer.specs.States.{stood, went, movedTo, stays, moves, withPair, withoutPair}
+use Rattle.buffer.specs.Step.{waits, puts, applied, stepped, turned}
 
--- a place that the code found, or not
-found-elim : {X : Type 0} (n : X) (f : ℕ → X) (o : Option ℕ) (r : Found) → r ≡ found o → (i : ℕ) → r ≡ F.At i → Option·elim o n f ≡ f i
-unfolding found Option·elim
-found-elim n f none r e i a = let z : F.Nothing ≡ F.At i = cc in cc
-found-elim n f (some j) r e i a = let z : F.At j ≡ F.At i = cc in let q : j ≡ i = cc in rw q
-
-missing-elim : {X : Type 0} (n : X) (f : ℕ → X) (o : Option ℕ) (r : Found) → r ≡ found o → r ≡ F.Nothing → Option·elim o n f ≡ n
-unfolding found Option·elim
-missing-elim n f none r e a = refl
-missing-elim n f (some j) r e a = let z : F.At j ≡ F.Nothing = cc in cc
-
-module _ (M : List ℕ) (c : ThreadState) (x : ℕ) (r : Found) (e : r ≡ found (lastFor (waitingVars c) x)) where
-  pub seen-waiting : (i : ℕ) → r ≡ F.At i → c .values ! i ≡ seenBy M c x
-  unfolding seenBy
-  seen-waiting i a = sym (found-elim (M ! x) (λ i. c .values ! i) (lastFor (waitingVars c) x) r e i a)
-
-  pub seen-memory : r ≡ F.Nothing → M ! x ≡ seenBy M c x
-  unfolding seenBy
-  seen-memory a = sym (missing-elim (M ! x) (λ i. c .values ! i) (lastFor (waitingVars c) x) r e a)
-
-module _ (m : Model) (c : ThreadState) (x : ℕ) (r : Found) (e : r ≡ found (readyAt m (waitingVars c) x)) where
-  pub put-found : (i : ℕ) → r ≡ F.At i → C.Put i ≡ putChange m x c
-  unfolding putChange
-  put-found i a = sym (found-elim C.Nothing C.Put (readyAt m (waitingVars c) x) r e i a)
-
-  pub put-missing : r ≡ F.Nothing → C.Nothing ≡ putChange m x c
-  unfolding putChange
-  put-missing a = sym (missing-elim C.Nothing C.Put (readyAt m (waitingVars c) x) r e a)
-
-pub decided-put : (m : Model) (i : Instr) (choice : ℕ) (M : List ℕ) (c : ThreadState) → (choice ≡ 0 → ⊥) → decided m i choice M c ≡ putChange m (choice - 1) c
-unfolding decided
-decided-put m i zero M c n = absurd (n refl)
-decided-put m i (suc x) M c n = let e : suc x - 1 ≡ x = omega arith in rw e
-
-pub decided-program : (m : Model) (i : Instr) (choice : ℕ) (M : List ℕ) (c : ThreadState) → choice ≡ 0 → decided m i choice M c ≡ programChange i M c
-unfolding decided
-decided-program m i choice M c e = rw e
+-- a place below the limit
+pub place-lt : (m : Model) (names : List ℕ) (count x : ℕ) → count < 16 → placeFor m (take count names) x < 16
+place-lt m names count x h = let g = place-le m (take count names) x in omega (arith, g, simp length-take at g)
 
 module _ (m : Model) (M : List ℕ) (c : ThreadState) (l : Line) (x v : ℕ) where
   abbrev place : ℕ
@@ -71,10 +40,6 @@ module _ (m : Model) (M : List ℕ) (c : ThreadState) (l : Line) (x v : ℕ) whe
   unfolding waits withPair
   waits-room h i e vs ws p q = rw (lt-true (c .count) 16 h, waits, p, q, e)
 
-  -- a place below the limit
-  pub place-lt : c .count < 16 → place < 16
-  place-lt h = let g = place-le m (waitingVars c) x in omega (arith, g, simp length-take at g)
-
 module _ (M : List ℕ) (c : ThreadState) (i : ℕ) where
   pub puts-nothing : min (c .count) 16 ≤ i → stays M c ≡ puts M c i
   unfolding puts
@@ -85,3 +50,43 @@ module _ (M : List ℕ) (c : ThreadState) (i : ℕ) where
       → moves N (record { line = c .line; registers = c .registers; names = vs; values = ws; count = c .count - 1 }) ≡ puts M c i
   unfolding puts withoutPair
   puts-pair h vs ws N a b p q f g n = rw (lt-true i (min (c .count) 16) h, puts, p, q, n, f, g)
+
+-- a step in lent lists: not taken, and taken
+pub stood-at : (t : Turned) (l : Line) (n : ℕ) (M regs names values : List ℕ) → t ≡ stood l n → movedTo t M regs names values ≡ stays M (threadOf l n regs names values)
+stood-at t l n M regs names values e = λ i. movedTo (e i) M regs names values
+
+pub taken-to : (t : Turned) (l : Line) (n : ℕ) (M M′ regs regs′ names values : List ℕ) → t ≡ went l n → M ≡ M′ → regs ≡ regs′
+    → movedTo t M regs names values ≡ moves M′ (threadOf l n regs′ names values)
+taken-to t l n M M′ regs regs′ names values e m r = λ i. movedTo (e i) (m i) (r i) names values
+
+if-still : (b : Bool) (N : List ℕ) (d : ThreadState) (M : List ℕ) (c : ThreadState) → cond b (moves N d) (stays M c) .ok ≡ false → cond b (moves N d) (stays M c) ≡ stays M c
+if-still true N d M c e = cc
+if-still false N d M c e = refl
+
+applied-still : (m : Model) (M : List ℕ) (c : ThreadState) (d : Change) → applied d m M c .ok ≡ false → applied d m M c ≡ stays M c
+unfolding applied waits puts withPair withoutPair
+applied-still m M c C.Nothing e = refl
+applied-still m M c (C.Go l) e = cc
+applied-still m M c (C.Register l r v) e = cc
+applied-still m M c (C.Wait l x v) e = if-still (ltb (c .count) 16) M (withPair c l (placeFor m (waitingVars c) x) x v) M c e
+applied-still m M c (C.Swap l r x v) e = cc
+applied-still m M c (C.Put i) e = if-still (ltb i (min (c .count) 16)) (set M (c .names ! i) (c .values ! i)) (withoutPair c i) M c e
+
+-- the 16 places of names and values
+module _ (m : Model) (instr : Instr) (choice : ℕ) (M : List ℕ) (c : ThreadState) where
+  pub turned-names : length (c .names) ≢ 16 → stays M c ≡ turned m instr choice M c
+  unfolding turned
+  turned-names n = rw (eq-false (length (c .names)) 16 n, turned)
+
+  pub turned-values : length (c .names) ≡ 16 → length (c .values) ≢ 16 → stays M c ≡ turned m instr choice M c
+  unfolding turned
+  turned-values e n = rw (e, eq-false (length (c .values)) 16 n, turned)
+
+  pub turned-step : length (c .names) ≡ 16 → length (c .values) ≡ 16 → stepped m instr choice M c ≡ turned m instr choice M c
+  unfolding turned
+  turned-step e f = rw (e, f, turned)
+
+  -- where there is no step all is as before
+  pub stepped-still : stepped m instr choice M c .ok ≡ false → stepped m instr choice M c ≡ stays M c
+  unfolding stepped
+  stepped-still e = applied-still m M c (decided m instr choice M c) e

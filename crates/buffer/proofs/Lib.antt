@@ -1,3 +1,4 @@
 pub mod Cases
 pub mod Filled
 pub mod Steps
+pub mod Shifts

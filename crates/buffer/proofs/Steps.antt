@@ -26,11 +26,12 @@ use Rattle.pending.specs.Places.{placeFor, lastFor, readyAt}
 use Rattle.pending.specs.Pending.{putIn, takeOut}
 use Rattle.pending.proofs.Places.{putAt, takenAt, add-place, newest-place, ready-place, place-le, last-lt, ready-lt}
 use Rattle.pending.proofs.Discipline.{map-put, map-left}
-use Rattle.buffer.specs.declared.Change.{Change}
-use Rattle.buffer.specs.declared.Change.the-variants as C
+use Rattle.chosen.specs.declared.Change.{Change}
+use Rattle.chosen.specs.declared.Change.the-variants as C
 use Rattle.buffer.specs.declared.Moved.{Moved}
 use Rattle.buffer.specs.States.{valOf, pairs, bufferedOf, coreOf, stays, moves, withPair, withoutPair}
-use Rattle.buffer.specs.Step.{following, waitingVars, seenBy, drainedChange, programChange, putChange, decided, waits, puts, applied, stepped}
+use Rattle.chosen.specs.Decide.{following, waitingVars, seenBy, drainedChange, programChange, putChange, decided}
+use Rattle.buffer.specs.Step.{waits, puts, applied, stepped}
 use Rattle.buffer.proofs.Cases.{waits-full, waits-room, puts-pair}
 use Rattle.buffer.proofs.Filled.{filled-taken, filled-at, put-filled, take-filled}
 

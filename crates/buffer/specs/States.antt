@@ -10,7 +10,9 @@ use Rattle.thread.specs.Table.{line}
 use Rattle.pending.specs.Pending.{putIn, takeOut}
 use Rattle.buffered.specs.Machine.{Pair, varOf, Buffered}
 use Rattle.shown.specs.declared.ThreadState.{ThreadState}
+use Rattle.chosen.specs.Decide.{threadOf}
 use Rattle.buffer.specs.declared.Moved.{Moved}
+use Rattle.buffer.specs.declared.Turned.{Turned}
 
 abbrev pub valOf : Pair → ℕ
 valOf p = p .val
@@ -37,6 +39,18 @@ coreOf b =
       values = filled mostWaiting (map valOf (b .waiting));
       count = length (b .waiting);
     }
+
+-- no step was taken: the thread's line and count are as before
+abbrev pub stood : Line → ℕ → Turned
+stood l n = record { ok = false; line = l; count = n }
+
+-- a step was taken: the thread's line and count after it
+abbrev pub went : Line → ℕ → Turned
+went l n = record { ok = true; line = l; count = n }
+
+-- what a turn answers and leaves in the lent lists, as one value
+abbrev pub movedTo : Turned → List ℕ → List ℕ → List ℕ → List ℕ → Moved
+movedTo t M regs names values = record { ok = t .ok; memory = M; core = threadOf (t .line) (t .count) regs names values }
 
 -- no such step: all is as before
 abbrev pub stays : List ℕ → ThreadState → Moved

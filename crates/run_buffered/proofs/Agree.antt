@@ -34,7 +34,7 @@ use Rattle.buffer.specs.Step.{stepped}
 use Rattle.buffer.proofs.Steps.{movedOf, step-is}
 use Rattle.shown.specs.Ran.{startOf, threadState, nobodyState, world}
 use Rattle.run_buffered.specs.Ran.{bufferedRan}
-use Rattle.run_buffered.specs.Cores.{startCores, taken, coreStep, ranStand, refusedRan}
+use Rattle.run_buffered.specs.Cores.{startCores, taken, coreStep, reached, ranStand, refusedRan}
 use Rattle.run_buffered.proofs.Starts.{begin-cores}
 
 -- One thread that is free of 2 to 10: the code's step is the buffered step.
@@ -119,7 +119,7 @@ each-length f [] = refl
 each-length f (a ∷ ts) = ap suc (each-length f ts)
 
 pub stand-shown : (e : Stand Buffered) → ranStand (viewStand (λ t b. coreOf b) e) ≡ bufferedRan (resultBuffered e)
-unfolding ranStand resultBuffered shownState endOf
+unfolding ranStand reached resultBuffered shownState endOf
 stand-shown e =
     let ts = e .world .threads in
     let k : mostThreads - length (each (λ t. coreOf) ts) ≡ mostThreads - length (map shownBuffered ts) = rw (each-length coreOf ts, length-map) in
@@ -140,7 +140,7 @@ module _ (m : ℕ) (tables : List (List ℕ)) (M all sched : List ℕ) (count : 
   ran-refused t r e = rw (e, runBuffered)
 
   -- else the steps
-  pub ran-steps : refusals ≡ none → ranStand (run (coreStep (modelOf m) tables) (items sched) 0 (world count M (startCores count all))) ≡ bufferedRan (runBuffered start)
+  pub ran-steps : refusals ≡ none → ranStand (run (coreStep (modelOf m) tables) (items sched) 0 (world count M (startCores all))) ≡ bufferedRan (runBuffered start)
   unfolding runBuffered startWorld
   ran-steps e =
       let p = none-bad (λ t. admission m (getD tables t [])) count .0 e in

@@ -1,4 +1,4 @@
-pub mod First
+pub mod Flat
 pub mod Starts
 pub mod Turns
 pub mod Agree

@@ -4,39 +4,27 @@ use mathlib.Core.Option.{Option, none, some}
 use Prim.Native.Nat.{ℕ, _-_}
 use mathlib.Core.List.{List, [], _∷_, _++_}
 use lib.ListN.{length, getD, replicate}
-use lib.Dec.{ltb}
 use Rattle.thread.specs.declared.Model.{Model}
 use Rattle.thread.specs.declared.Refusal.{Refusal}
-use Rattle.thread.specs.Sizes.{registers, variables, mostWaiting, mostThreads}
+use Rattle.thread.specs.Sizes.{variables, mostWaiting, mostThreads}
 use Rattle.thread.specs.Numbers.{zeros}
 use Rattle.thread.specs.Table.{line, instrAt}
+use Rattle.runs.specs.declared.Ended.{Ended}
 use Rattle.runs.specs.declared.Ended.the-variants as E
-use Rattle.runs.specs.Run.{In, Stand, Bad, endOf}
+use Rattle.runs.specs.Run.{In, Stand, endOf}
 use Rattle.shown.specs.declared.ThreadState.{ThreadState}
 use Rattle.buffer.specs.declared.Moved.{Moved}
 use Rattle.buffer.specs.Step.{stepped}
 use Rattle.shown.specs.declared.Ran.{Ran}
-use Rattle.run_buffered.specs.declared.Judged.{Judged}
-use Rattle.run_buffered.specs.declared.Judged.the-variants as J
 use Rattle.shown.specs.Ran.{cut, nobodyState}
-
--- whether a thread is refused, as the code answers it
-unfoldable pub judged : Option Bad → Judged
-judged none = J.Fine
-judged (some b) = J.Bad (b .thread) (b .refusal)
 
 -- a thread with nothing waiting, at line 0
 abbrev pub emptyCore : List ℕ → ThreadState
 emptyCore regs = record { line = line 0; registers = regs; names = zeros mostWaiting; values = zeros mostWaiting; count = 0 }
 
--- a present thread starts with its registers; another is all 0
-unfoldable pub startCore : ℕ → List ℕ → ℕ → ThreadState
-startCore count all t = emptyCore (cond (ltb t count) (cut all t) (zeros registers))
-
--- all four
-unfoldable pub startCores : ℕ → List ℕ → List ThreadState
-unfolding startCore
-startCores count all = startCore count all 0 ∷ startCore count all 1 ∷ startCore count all 2 ∷ startCore count all 3 ∷ []
+-- all four at their start
+abbrev pub startCores : List ℕ → List ThreadState
+startCores all = emptyCore (cut all 0) ∷ emptyCore (cut all 1) ∷ emptyCore (cut all 2) ∷ emptyCore (cut all 3) ∷ []
 
 -- a step in code, if there was one
 unfoldable pub taken : Moved → Option (In ThreadState)
@@ -47,19 +35,22 @@ unfoldable pub coreStep : Model → List (List ℕ) → ℕ → ℕ → In Threa
 unfolding stepped taken instrAt
 coreStep m tables t c s = taken (stepped m (instrAt (getD tables t []) (s .own .line)) c (s .memory) (s .own))
 
--- where the run stands at its end, with the threads that are not there
-unfoldable pub ranStand : Stand ThreadState → Ran
-unfolding endOf
-ranStand e =
-    record {
-      ended = endOf e;
-      memory = e .world .memory;
-      threads = e .world .threads ++ replicate (mostThreads - length (e .world .threads)) nobodyState;
-    }
+-- a run's end with the threads that are there
+abbrev pub ranOfPresent : Ended → List ℕ → List ThreadState → Ran
+ranOfPresent ended memory threads = record { ended = ended; memory = memory; threads = threads }
 
--- the item with this index names no step
-abbrev pub stoppedRan : ℕ → List ℕ → List ThreadState → Ran
-stoppedRan index memory threads = record { ended = E.Stopped index; memory = memory; threads = threads }
+-- where the run stands at its end
+unfoldable pub reached : Stand ThreadState → Ran
+unfolding endOf
+reached e = ranOfPresent (endOf e) (e .world .memory) (e .world .threads)
+
+-- with the threads that are not there
+abbrev pub withAbsent : Ran → Ran
+withAbsent r = ranOfPresent (r .ended) (r .memory) (r .threads ++ replicate (mostThreads - length (r .threads)) nobodyState)
+
+unfoldable pub ranStand : Stand ThreadState → Ran
+unfolding reached
+ranStand e = withAbsent (reached e)
 
 -- "A refusal zeroes .. state and count"
 abbrev pub refusedRan : ℕ → Refusal → Ran

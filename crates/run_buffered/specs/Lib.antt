@@ -1,2 +1,3 @@
 pub mod Ran
 pub mod Cores
+pub mod Flat

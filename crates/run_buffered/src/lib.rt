@@ -1,6 +1,6 @@
-// The run of buffered threads: its refusals, then the schedule's items, one step each.
-use admit::Admission;
-use buffer::Moved;
+// The run of buffered threads: its refusals, then the schedule's items, one step each in flat lists: thread t's line and count at place t,
+// its registers, names and values at places 16 t to 16 t + 15.
+use judge::Judged;
 use runs::Ended;
 use shown::Ran;
 use shown::ThreadState;
@@ -9,42 +9,24 @@ use thread::Line;
 use thread::Model;
 use thread::Refusal;
 ghost use mathlib.Core.Path.{_≡_};
-ghost use mathlib.Core.List.{[], _∷_};
+ghost use mathlib.Core.Bool.{cond};
+ghost use mathlib.Core.List.{[], _∷_, _++_};
 ghost use Prim.Native.Nat.{_-_, _<_, _≤_};
-ghost use lib.ListN.{getD, drop, replicate};
+ghost use lib.ListN.{length, getD, take, replicate};
 ghost use Rattle.thread.specs.Table.{instrAt};
-ghost use Rattle.checks.specs.Checks.{admission, modelOf};
-ghost use Rattle.runs.specs.Run.{items, run, firstBad, threadsRefused};
+ghost use Rattle.checks.specs.Checks.{modelOf};
+ghost use Rattle.runs.specs.Run.{items, run};
 ghost use Rattle.buffered.specs.RunBuffered.{runBuffered};
-ghost use Rattle.admit.specs.Answer.{answer};
-ghost use Rattle.buffer.specs.Step.{stepped};
-ghost use Rattle.run_buffered.specs.Cores.{emptyCore, startCore, startCores, judged, coreStep, stoppedRan, ranStand, refusedRan};
+ghost use Rattle.run_buffered.specs.Cores.{startCores, coreStep, ranOfPresent, reached, ranStand, refusedRan};
+ghost use lib.Dec.{ltb};
 ghost use Rattle.shown.specs.Ran.{cut, startOf, nobodyState, world};
+ghost use Rattle.run_buffered.specs.Flat.{flat, threadIn, threadsIn, Sized, TurnIs};
 ghost use Rattle.run_buffered.specs.Ran.{bufferedRan};
-
-// no thread is refused, or the first that is
-pub enum Judged {
-    Fine,
-    Bad(u32, Refusal),
-}
 
 fn model_of(model: u32) -> Model
     ensures { λ r. ⌜ r ≡ modelOf model ⌝ }
 {
     if model == 0 { Model::Tso } else { Model::Pso }
-}
-
-// 2 to 10 of thread `t`
-fn admit_thread(model: u32, t0: &[u32], t1: &[u32], t2: &[u32], t3: &[u32], t: u32) -> Admission
-    requires { ⌜ t < 4 ⌝ }
-    ensures { λ r. ⌜ r ≡ answer (admission model (getD (now (t0 .entry) ∷ now (t1 .entry) ∷ now (t2 .entry) ∷ now (t3 .entry) ∷ []) t [])) ⌝ }
-{
-    match t {
-        0 => admit::admit(model, t0),
-        1 => admit::admit(model, t1),
-        2 => admit::admit(model, t2),
-        _ => admit::admit(model, t3),
-    }
 }
 
 // the instruction at a line of thread `t`
@@ -60,113 +42,39 @@ fn instr_in(t0: &[u32], t1: &[u32], t2: &[u32], t3: &[u32], t: u32, line: Line) 
     }
 }
 
-// "thread by thread": the first that is refused
-fn first_bad(model: u32, threads: u32, t0: &[u32], t1: &[u32], t2: &[u32], t3: &[u32]) -> Judged
-    requires { ⌜ threads ≤ 4 ⌝ }
-    ensures { λ r. ⌜ r ≡ judged (firstBad (λ t. admission model (getD (now (t0 .entry) ∷ now (t1 .entry) ∷ now (t2 .entry) ∷ now (t3 .entry) ∷ []) t [])) 0 threads) ⌝ }
-{
-    let mut t: u32 = 0;
-    while t < threads {
-        let admission = admit_thread(model, t0, t1, t2, t3, t);
-        if let Admission::Refused(refusal) = admission {
-            return Judged::Bad(t, refusal);
-        }
-        t += 1;
-    }
-    Judged::Fine
-}
-
-// 14, then 2 to 10
-fn judge(model: u32, threads: u32, t0: &[u32], t1: &[u32], t2: &[u32], t3: &[u32]) -> Judged
-    ensures { λ r. ⌜ r ≡ judged (threadsRefused (λ t. admission model (getD (now (t0 .entry) ∷ now (t1 .entry) ∷ now (t2 .entry) ∷ now (t3 .entry) ∷ []) t [])) threads) ⌝ }
-{
-    let wrong = Judged::Bad(0, Refusal::BadThreads);
-    if threads == 0 {
-        return wrong;
-    }
-    if 4 < threads {
-        return wrong;
-    }
-    first_bad(model, threads, t0, t1, t2, t3)
-}
-
-// the 16 registers of thread `t`
-fn cut_registers(registers: [u32; 64], t: usize) -> [u32; 16]
-    requires { ⌜ t < 4 ⌝ }
-    ensures { λ r. ⌜ r ≡ cut registers t ⌝ }
-{
-    let mut own = [0u32; 16];
-    let mut j: usize = 0;
-    while j < 16 {
-        own[j] = registers[16 * t + j];
-        j += 1;
-    }
-    own
-}
-
-// a thread with nothing waiting, at line 0
-fn empty_core(registers: [u32; 16]) -> ThreadState
-    ensures { λ r. ⌜ r ≡ emptyCore registers ⌝ }
-{
-    ThreadState {
-        line: Line(0),
-        registers,
-        names: [0u32; 16],
-        values: [0u32; 16],
-        count: 0,
-    }
-}
-
-// a thread at its start; one that is not there is all 0
-fn start_core(threads: u32, registers: [u32; 64], t: u32) -> ThreadState
-    requires { ⌜ t < 4 ⌝ }
-    ensures { λ r. ⌜ r ≡ startCore threads registers t ⌝ }
-{
-    if t < threads {
-        return empty_core(cut_registers(registers, t as usize));
-    }
-    empty_core([0u32; 16])
-}
-
-fn start_cores(threads: u32, registers: [u32; 64]) -> [ThreadState; 4]
-    ensures { λ r. ⌜ r ≡ startCores threads registers ⌝ }
-{
-    let first = start_core(threads, registers, 0);
-    let second = start_core(threads, registers, 1);
-    let third = start_core(threads, registers, 2);
-    let fourth = start_core(threads, registers, 3);
-    [first, second, third, fourth]
-}
-
-// thread `t` takes a choice
-fn step_thread(
+// thread `t` takes a choice; `false`: it has no such step, and all is as before
+fn turn(
     model: Model,
-    t0: &[u32],
-    t1: &[u32],
-    t2: &[u32],
-    t3: &[u32],
-    t: u32,
+    instr: Instr,
+    t: usize,
     choice: u32,
-    memory: [u32; 16],
-    core: ThreadState,
-) -> Moved
-    requires { ⌜ t < 4 ⌝ }
-    ensures { λ r. ⌜ r ≡ stepped model (instrAt (getD (now (t0 .entry) ∷ now (t1 .entry) ∷ now (t2 .entry) ∷ now (t3 .entry) ∷ []) t []) (core .line)) choice memory core ⌝ }
+    memory: &mut [u32],
+    lines: &mut [u32],
+    counts: &mut [u32],
+    regs: &mut [u32],
+    names: &mut [u32],
+    values: &mut [u32],
+) -> bool
+    requires { ⌜ (t < 4) × Sized (flat (now lines) (now counts) (now regs) (now names) (now values)) ⌝ }
+    ensures { λ r. ⌜ TurnIs model instr t choice (now (memory .entry)) (flat (now (lines .entry)) (now (counts .entry)) (now (regs .entry)) (now (names .entry)) (now (values .entry))) r (now (memory .exit)) (flat (now (lines .exit)) (now (counts .exit)) (now (regs .exit)) (now (names .exit)) (now (values .exit))) ⌝ }
 {
-    let line = core.line;
-    let instr = instr_in(t0, t1, t2, t3, t, line);
-    buffer::step(model, instr, choice, memory, core)
-}
-
-// the item with this index names no step; the state is the one before it
-fn stopped(index: u64, before: [u32; 16], threads: [ThreadState; 4]) -> Ran
-    ensures { λ r. ⌜ r ≡ stoppedRan index before threads ⌝ }
-{
-    Ran {
-        ended: Ended::Stopped(index),
-        memory: before,
-        threads,
-    }
+    let a = 16 * t;
+    let e = a + 16;
+    let next = buffer::turn(
+        model,
+        instr,
+        choice,
+        Line(lines[t]),
+        counts[t],
+        memory,
+        &mut regs[a..e],
+        &mut names[a..e],
+        &mut values[a..e],
+    );
+    let line = next.line;
+    lines[t] = line.0;
+    counts[t] = next.count;
+    next.ok
 }
 
 // the items in order, up to the first that names no step
@@ -177,43 +85,148 @@ fn steps(
     t1: &[u32],
     t2: &[u32],
     t3: &[u32],
-    start: [u32; 16],
-    begun: [ThreadState; 4],
     schedule: &[u32],
-) -> Ran
-    requires { ⌜ (threads ≤ 4) × (drop threads begun ≡ replicate (4 - threads) nobodyState) ⌝ }
-    ensures { λ r. ⌜ r ≡ ranStand (run (coreStep model (now (t0 .entry) ∷ now (t1 .entry) ∷ now (t2 .entry) ∷ now (t3 .entry) ∷ [])) (items (now (schedule .entry))) 0 (world threads start begun)) ⌝ }
+    memory: &mut [u32],
+    lines: &mut [u32],
+    counts: &mut [u32],
+    regs: &mut [u32],
+    names: &mut [u32],
+    values: &mut [u32],
+) -> Ended
+    requires { ⌜ (threads ≤ 4) × Sized (flat (now lines) (now counts) (now regs) (now names) (now values)) ⌝ }
+    ensures { λ r. ⌜ ranOfPresent r (now (memory .exit)) (take threads (threadsIn (flat (now (lines .exit)) (now (counts .exit)) (now (regs .exit)) (now (names .exit)) (now (values .exit))))) ≡ reached (run (coreStep model (now (t0 .entry) ∷ now (t1 .entry) ∷ now (t2 .entry) ∷ now (t3 .entry) ∷ [])) (items (now (schedule .entry))) 0 (world threads (now (memory .entry)) (threadsIn (flat (now (lines .entry)) (now (counts .entry)) (now (regs .entry)) (now (names .entry)) (now (values .entry)))))) ⌝ }
 {
-    let mut memory = start;
-    let mut cores = begun;
     let mut at: usize = 0;
     let mut done: u64 = 0;
     while at + 1 < schedule.len() {
         let t = schedule[at];
-        let choice = schedule[at + 1];
+        let c = schedule[at + 1];
         if threads <= t {
-            return stopped(done, memory, cores);
+            return Ended::Stopped(done);
         }
         let own = t as usize;
-        let core = cores[own];
-        let moved = step_thread(model, t0, t1, t2, t3, t, choice, memory, core);
-        if !moved.ok {
-            return stopped(done, memory, cores);
+        let i = instr_in(t0, t1, t2, t3, t, Line(lines[own]));
+        if !turn(model, i, own, c, memory, lines, counts, regs, names, values) {
+            return Ended::Stopped(done);
         }
-        let after = moved.memory;
-        memory = after;
-        let next = moved.core;
-        cores[own] = next;
         at += 2;
         done += 1;
     }
     if at < schedule.len() {
-        return stopped(done, memory, cores);
+        return Ended::Stopped(done);
     }
+    Ended::Done(done)
+}
+
+// the 16 numbers of thread `t`, of 64
+fn part(all: &[u32], t: usize) -> [u32; 16]
+    requires { ⌜ (t < 4) × (length (now all) ≡ 64) ⌝ }
+    ensures { λ r. ⌜ r ≡ cut (now (all .entry)) t ⌝ }
+{
+    let mut own = [0u32; 16];
+    let mut j: usize = 0;
+    while j < 16 {
+        own[j] = all[16 * t + j];
+        j += 1;
+    }
+    own
+}
+
+fn nobody() -> ThreadState
+    ensures { λ r. ⌜ r ≡ nobodyState ⌝ }
+{
+    ThreadState {
+        line: Line(0),
+        registers: [0u32; 16],
+        names: [0u32; 16],
+        values: [0u32; 16],
+        count: 0,
+    }
+}
+
+// thread `t` as it is shown; one that is not there is all 0
+fn show_thread(
+    threads: u32,
+    t: u32,
+    lines: &[u32],
+    counts: &[u32],
+    registers: &[u32],
+    names: &[u32],
+    values: &[u32],
+) -> ThreadState
+    requires { ⌜ (t < 4) × Sized (flat (now lines) (now counts) (now registers) (now names) (now values)) ⌝ }
+    ensures { λ r. ⌜ r ≡ cond (ltb t threads) (threadIn (flat (now (lines .entry)) (now (counts .entry)) (now (registers .entry)) (now (names .entry)) (now (values .entry))) t) nobodyState ⌝ }
+{
+    if threads <= t {
+        return nobody();
+    }
+    let own = t as usize;
+    ThreadState {
+        line: Line(lines[own]),
+        registers: part(registers, own),
+        names: part(names, own),
+        values: part(values, own),
+        count: counts[own],
+    }
+}
+
+// all four
+fn show_threads(
+    threads: u32,
+    lines: &[u32],
+    counts: &[u32],
+    registers: &[u32],
+    names: &[u32],
+    values: &[u32],
+) -> [ThreadState; 4]
+    requires { ⌜ (threads ≤ 4) × Sized (flat (now lines) (now counts) (now registers) (now names) (now values)) ⌝ }
+    ensures { λ r. ⌜ r ≡ take threads (threadsIn (flat (now (lines .entry)) (now (counts .entry)) (now (registers .entry)) (now (names .entry)) (now (values .entry)))) ++ replicate (4 - threads) nobodyState ⌝ }
+{
+    let first = show_thread(threads, 0, lines, counts, registers, names, values);
+    let second = show_thread(threads, 1, lines, counts, registers, names, values);
+    let third = show_thread(threads, 2, lines, counts, registers, names, values);
+    let fourth = show_thread(threads, 3, lines, counts, registers, names, values);
+    [first, second, third, fourth]
+}
+
+// the run where no thread is refused
+fn run_fine(
+    model: Model,
+    threads: u32,
+    t0: &[u32],
+    t1: &[u32],
+    t2: &[u32],
+    t3: &[u32],
+    mut memory: [u32; 16],
+    mut registers: [u32; 64],
+    schedule: &[u32],
+) -> Ran
+    requires { ⌜ threads ≤ 4 ⌝ }
+    ensures { λ r. ⌜ r ≡ ranStand (run (coreStep model (now (t0 .entry) ∷ now (t1 .entry) ∷ now (t2 .entry) ∷ now (t3 .entry) ∷ [])) (items (now (schedule .entry))) 0 (world threads memory (startCores registers))) ⌝ }
+{
+    let mut lines = [0u32; 4];
+    let mut counts = [0u32; 4];
+    let mut names = [0u32; 64];
+    let mut values = [0u32; 64];
+    let ended = steps(
+        model,
+        threads,
+        t0,
+        t1,
+        t2,
+        t3,
+        schedule,
+        &mut memory,
+        &mut lines,
+        &mut counts,
+        &mut registers,
+        &mut names,
+        &mut values,
+    );
     Ran {
-        ended: Ended::Done(done),
+        ended,
         memory,
-        threads: cores,
+        threads: show_threads(threads, &lines, &counts, &registers, &names, &values),
     }
 }
 
@@ -221,11 +234,10 @@ fn steps(
 fn refused(t: u32, refusal: Refusal) -> Ran
     ensures { λ r. ⌜ r ≡ refusedRan t refusal ⌝ }
 {
-    let nobody = empty_core([0u32; 16]);
     Ran {
         ended: Ended::Refused(t, refusal),
         memory: [0u32; 16],
-        threads: [nobody; 4],
+        threads: [nobody(); 4],
     }
 }
 
@@ -243,13 +255,12 @@ pub fn run_buffered(
 ) -> Ran
     ensures { λ r. ⌜ r ≡ bufferedRan (runBuffered (startOf model threads (now (t0 .entry) ∷ now (t1 .entry) ∷ now (t2 .entry) ∷ now (t3 .entry) ∷ []) memory registers (now (schedule .entry)))) ⌝ }
 {
-    let judged = judge(model, threads, t0, t1, t2, t3);
+    let judged = judge::judge(model, threads, t0, t1, t2, t3);
     match judged {
         Judged::Bad(t, refusal) => refused(t, refusal),
         Judged::Fine => {
             let rule = model_of(model);
-            let begun = start_cores(threads, registers);
-            steps(rule, threads, t0, t1, t2, t3, memory, begun, schedule)
+            run_fine(rule, threads, t0, t1, t2, t3, memory, registers, schedule)
         }
     }
 }

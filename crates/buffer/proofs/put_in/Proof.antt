@@ -1,84 +1,72 @@
--- `put_in` moves entries up by one. The loop has pasted j of them behind the place.
+-- `put_in` moves entries up, from the last place down.
 use mathlib.Core.Path.{_≡_, sym, ap, _∙_}
 use mathlib.Core.List.{List}
-use Prim.Native.Nat.{ℕ, _+_, _-_, _≤_, zero-le}
+use Prim.Native.Nat.{ℕ, _-_, _≤_}
 use native.Mathlib.Omega.{arith}
-use lib.ListN.{length, drop, set, getD, length-set, length-drop}
-use lib.Seq.{paste, paste-zero, getD-drop}
+use lib.ListN.{length, set, length-set}
+use Rattle.thread.specs.Numbers.{_!_}
+use Rattle.buffer.proofs.Shifts.{up, up-start, up-turn, up-end}
 use borrow.Author.Needs.{needs}
-use Rattle.pending.proofs.Moves.{moved, put-in}
 use Rattle.buffer.proofs.put_in.Statement.{statement}
 use Rattle.buffer.proofs.put_in.Tie as tie
 
 abbrev Inv-loop : tie.InvT-loop
-Inv-loop at v values rest next₀ j₀ next j = (j ≤ rest) × (next ≡ paste next₀ (at + 1) (drop at values) j)
+Inv-loop values₀ at v i₀ values i = (at ≤ i) × (i ≤ 15) × (length values ≡ 16) × (values ≡ up values₀ i)
 
 abbrev μ-loop : tie.MeasureT-loop
-μ-loop at v values rest next₀ j₀ next j = rest - j
-
-full : (s : tie.Start Inv-loop μ-loop) → length (s .args .t1) ≡ 16
-full s = search needs
-
--- the list where the loop begins
-abbrev begun : tie.Start Inv-loop μ-loop → List ℕ
-begun s = set (s .args .t1) (s .args .at) (s .args .v)
-
--- what is stored from the place on
-abbrev source : tie.Start Inv-loop μ-loop → List ℕ
-source s = (drop (s .args .at) (s .args .t1))
-
-sub-rest : tie.Need-sub-rest Inv-loop μ-loop
-sub-rest c = search needs
-
-mul-next : tie.Need-mul-next Inv-loop μ-loop
-mul-next c = search needs
-
-array-write-next : tie.Need-array-write-next Inv-loop μ-loop
-array-write-next c = search needs
+μ-loop values₀ at v i₀ values i = i
 
 loop-holds : tie.Need-loop-holds Inv-loop μ-loop
-loop-holds c = (zero-le, paste-zero (begun c) (c .args .at + 1) (source c))
+loop-holds c = (omega (arith, c .pre .0), omega arith, c .pre .1, up-start (c .args .values .now) (c .pre .1))
 
-add-next : tie.Need-add-next Inv-loop μ-loop
-add-next c = search needs
+sub-values : tie.Need-sub-values Inv-loop μ-loop
+sub-values c = search needs
 
-mul-next-2 : tie.Need-mul-next-2 Inv-loop μ-loop
-mul-next-2 c = search needs
+mul-values : tie.Need-mul-values Inv-loop μ-loop
+mul-values c = search needs
 
-array-read-next : tie.Need-array-read-next Inv-loop μ-loop
-array-read-next c = search needs
+slice-read-values : tie.Need-slice-read-values Inv-loop μ-loop
+slice-read-values c = search needs
 
-add-next-2 : tie.Need-add-next-2 Inv-loop μ-loop
-add-next-2 c = search needs
+mul-values-2 : tie.Need-mul-values-2 Inv-loop μ-loop
+mul-values-2 c = search needs
 
-add-next-3 : tie.Need-add-next-3 Inv-loop μ-loop
-add-next-3 c = search needs
+slice-write-values : tie.Need-slice-write-values Inv-loop μ-loop
+slice-write-values c = search needs
 
-mul-next-3 : tie.Need-mul-next-3 Inv-loop μ-loop
-mul-next-3 c = search needs
-
-array-write-next-2 : tie.Need-array-write-next-2 Inv-loop μ-loop
-array-write-next-2 c = search needs
-
-add-j : tie.Need-add-j Inv-loop μ-loop
-add-j c = search needs
+sub-i : tie.Need-sub-i Inv-loop μ-loop
+sub-i c = search needs
 
 loop-less : tie.Need-loop-less Inv-loop μ-loop
 loop-less c = search needs
 
 loop-again : tie.Need-loop-again Inv-loop μ-loop
 loop-again c =
-    let h = c .before in
+    let h = c .before .before in
     let s = h .before in
-    let j = h .loop .j in
-    (omega arith, moved (begun s) (h .loop .next) (s .args .at + 1) (source s) j (getD (s .args .t1) (s .args .at + j) 0) 0 (h .loop .inv .1) (sym (getD-drop (s .args .at) (s .args .t1) j 0)) (simp length-set (omega (arith, full s))) (simp length-drop (omega (arith, full s))))
+    let i = h .loop .i in (
+      omega arith,
+      omega arith,
+      simp length-set (h .loop .inv .2),
+      ap (λ (l : List ℕ). set l i (l ! (i - 1))) (h .loop .inv .3) ∙ up-turn (s .args .values .now) (s .pre .1) i (omega (arith, c .before .loop-test .taken)) (h .loop .inv .1),
+    )
+
+mul-values-3 : tie.Need-mul-values-3 Inv-loop μ-loop
+mul-values-3 c = search needs
+
+slice-write-values-2 : tie.Need-slice-write-values-2 Inv-loop μ-loop
+slice-write-values-2 c = search needs
+
+same-length : tie.Need-same-length Inv-loop μ-loop
+same-length c = simp length-set (c .before .loop .inv .2 ∙ sym (c .before .before .pre .1))
 
 returns : tie.Need-returns Inv-loop μ-loop
 returns c =
     let h = c .before in
     let s = h .before in
-    let e : h .loop .j ≡ 15 - s .args .at = omega arith in
-    h .loop .inv .1 ∙ ap (paste (begun s) (s .args .at + 1) (source s)) e ∙ put-in (s .args .t1) (s .args .at) (full s) (s .pre) (s .args .v)
+    let l = s .args .values .now in
+    let e : h .loop .i ≡ s .args .at = omega arith in
+    ap (λ (k : List ℕ). set k (s .args .at) (s .args .v)) (h .loop .inv .3 ∙ ap (up l) e) ∙ up-end l (s .pre .1) (s .args .at) (s .args .v) (s .pre .0)
 
 pub put-in-spec : {M : Type 1} → statement M
 put-in-spec =
@@ -86,18 +74,16 @@ put-in-spec =
     (tie.spec
     Inv-loop
     μ-loop
-    sub-rest
-    mul-next
-    array-write-next
     loop-holds
-    add-next
-    mul-next-2
-    array-read-next
-    add-next-2
-    add-next-3
-    mul-next-3
-    array-write-next-2
-    add-j
+    sub-values
+    mul-values
+    slice-read-values
+    mul-values-2
+    slice-write-values
+    sub-i
     loop-less
     loop-again
+    mul-values-3
+    slice-write-values-2
+    same-length
     returns)

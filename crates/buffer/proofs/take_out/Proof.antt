@@ -1,81 +1,69 @@
--- `take_out` moves entries down by one. The loop has pasted j of them from the place on.
+-- `take_out` moves entries down, from the place up.
 use mathlib.Core.Path.{_≡_, sym, ap, _∙_}
 use mathlib.Core.List.{List}
-use Prim.Native.Nat.{ℕ, _+_, _-_, _≤_, zero-le}
+use Prim.Native.Nat.{ℕ, _+_, _-_, _≤_}
 use native.Mathlib.Omega.{arith}
-use lib.ListN.{length, drop, set, getD, length-drop}
-use lib.Seq.{paste, paste-zero, getD-drop}
+use lib.ListN.{length, set, length-set}
+use Rattle.thread.specs.Numbers.{_!_}
+use Rattle.buffer.proofs.Shifts.{down, down-start, down-turn, down-end}
 use borrow.Author.Needs.{needs}
-use Rattle.pending.proofs.Moves.{moved, take-out}
 use Rattle.buffer.proofs.take_out.Statement.{statement}
 use Rattle.buffer.proofs.take_out.Tie as tie
 
 abbrev Inv-loop : tie.InvT-loop
-Inv-loop at values rest next₀ j₀ next j = (j ≤ rest) × (next ≡ paste next₀ at (drop (at + 1) values) j)
+Inv-loop values₀ at i₀ values i = (at ≤ i) × (i ≤ 15) × (length values ≡ 16) × (values ≡ down values₀ at i)
 
 abbrev μ-loop : tie.MeasureT-loop
-μ-loop at values rest next₀ j₀ next j = rest - j
-
-full : (s : tie.Start Inv-loop μ-loop) → length (s .args .t1) ≡ 16
-full s = search needs
-
--- the list where the loop begins
-abbrev begun : tie.Start Inv-loop μ-loop → List ℕ
-begun s = s .args .t1
-
--- what is stored from the place on
-abbrev source : tie.Start Inv-loop μ-loop → List ℕ
-source s = (drop (s .args .at + 1) (s .args .t1))
-
-sub-rest : tie.Need-sub-rest Inv-loop μ-loop
-sub-rest c = search needs
+μ-loop values₀ at i₀ values i = 15 - i
 
 loop-holds : tie.Need-loop-holds Inv-loop μ-loop
-loop-holds c = (zero-le, paste-zero (begun c) (c .args .at) (source c))
+loop-holds c = (omega arith, omega (arith, c .pre .0), c .pre .1, down-start (c .args .values .now) (c .pre .1) (c .args .at))
 
-add-next : tie.Need-add-next Inv-loop μ-loop
-add-next c = search needs
+add-values : tie.Need-add-values Inv-loop μ-loop
+add-values c = search needs
 
-add-next-2 : tie.Need-add-next-2 Inv-loop μ-loop
-add-next-2 c = search needs
+mul-values : tie.Need-mul-values Inv-loop μ-loop
+mul-values c = search needs
 
-mul-next : tie.Need-mul-next Inv-loop μ-loop
-mul-next c = search needs
+slice-read-values : tie.Need-slice-read-values Inv-loop μ-loop
+slice-read-values c = search needs
 
-array-read-next : tie.Need-array-read-next Inv-loop μ-loop
-array-read-next c = search needs
+mul-values-2 : tie.Need-mul-values-2 Inv-loop μ-loop
+mul-values-2 c = search needs
 
-add-next-3 : tie.Need-add-next-3 Inv-loop μ-loop
-add-next-3 c = search needs
+slice-write-values : tie.Need-slice-write-values Inv-loop μ-loop
+slice-write-values c = search needs
 
-mul-next-2 : tie.Need-mul-next-2 Inv-loop μ-loop
-mul-next-2 c = search needs
-
-array-write-next : tie.Need-array-write-next Inv-loop μ-loop
-array-write-next c = search needs
-
-add-j : tie.Need-add-j Inv-loop μ-loop
-add-j c = search needs
+add-i : tie.Need-add-i Inv-loop μ-loop
+add-i c = search needs
 
 loop-less : tie.Need-loop-less Inv-loop μ-loop
 loop-less c = search needs
 
 loop-again : tie.Need-loop-again Inv-loop μ-loop
 loop-again c =
-    let h = c .before in
+    let h = c .before .before in
     let s = h .before in
-    let j = h .loop .j in
-    (omega arith, moved (begun s) (h .loop .next) (s .args .at) (source s) j (getD (s .args .t1) (s .args .at + 1 + j) 0) 0 (h .loop .inv .1) (sym (getD-drop (s .args .at + 1) (s .args .t1) j 0)) (omega (arith, full s)) (simp length-drop (omega (arith, full s))))
+    let i = h .loop .i in (
+      omega arith,
+      omega arith,
+      simp length-set (h .loop .inv .2),
+      ap (λ (l : List ℕ). set l i (l ! (i + 1))) (h .loop .inv .3) ∙ down-turn (s .args .values .now) (s .pre .1) (s .args .at) i (h .loop .inv .0) (c .before .loop-test .taken),
+    )
 
-array-write-next-2 : tie.Need-array-write-next-2 Inv-loop μ-loop
-array-write-next-2 c = omega (arith, full (c .before .before), ap length (c .before .loop .inv .1))
+slice-write-values-2 : tie.Need-slice-write-values-2 Inv-loop μ-loop
+slice-write-values-2 c = search needs
+
+same-length : tie.Need-same-length Inv-loop μ-loop
+same-length c = simp length-set (c .before .loop .inv .2 ∙ sym (c .before .before .pre .1))
 
 returns : tie.Need-returns Inv-loop μ-loop
 returns c =
     let h = c .before in
     let s = h .before in
-    let e : h .loop .j ≡ 15 - s .args .at = omega arith in
-    ap (λ (l : List ℕ). set l 15 0) (h .loop .inv .1 ∙ ap (paste (begun s) (s .args .at) (source s)) e) ∙ take-out (s .args .t1) (s .args .at) (full s) (s .pre) 0
+    let l = s .args .values .now in
+    let e : h .loop .i ≡ 15 = omega arith in
+    ap (λ (k : List ℕ). set k 15 0) (h .loop .inv .3 ∙ ap (down l (s .args .at)) e) ∙ down-end l (s .pre .1) (s .args .at) (s .pre .0)
 
 pub take-out-spec : {M : Type 1} → statement M
 take-out-spec =
@@ -83,17 +71,15 @@ take-out-spec =
     (tie.spec
     Inv-loop
     μ-loop
-    sub-rest
     loop-holds
-    add-next
-    add-next-2
-    mul-next
-    array-read-next
-    add-next-3
-    mul-next-2
-    array-write-next
-    add-j
+    add-values
+    mul-values
+    slice-read-values
+    mul-values-2
+    slice-write-values
+    add-i
     loop-less
     loop-again
-    array-write-next-2
+    slice-write-values-2
+    same-length
     returns)

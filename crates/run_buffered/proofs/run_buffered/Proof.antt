@@ -4,17 +4,15 @@ use mathlib.Core.Option.{Option}
 use mathlib.Core.Path.{ap, _∙_}
 use Prim.Native.Nat.{ℕ}
 use lib.ListN.{getD}
-use borrow.Author.Needs.{needs}
-use Rattle.run_buffered.proofs.Agree.{ran-refused, ran-steps}
-use Rattle.run_buffered.proofs.Starts.{absent-cores}
-use Rattle.run_buffered.proofs.First.{is-bad, is-fine}
-use Rattle.shown.specs.Ran.{world}
-use Rattle.run_buffered.specs.Cores.{coreStep, ranStand}
-use Rattle.shown.specs.declared.ThreadState.{ThreadState}
-use Rattle.agree.proofs.Refusals.{none-bad}
-use Rattle.runs.specs.Run.{Bad, items, run, threadsRefused}
-use Rattle.checks.specs.Checks.{admission, modelOf}
 use Rattle.thread.specs.declared.Model.{Model}
+use Rattle.checks.specs.Checks.{admission}
+use Rattle.runs.specs.Run.{Bad, items, run, threadsRefused}
+use Rattle.agree.proofs.Refusals.{none-bad}
+use Rattle.shown.specs.Ran.{world}
+use Rattle.run_buffered.specs.Cores.{startCores, coreStep, ranStand}
+use Rattle.run_buffered.proofs.Agree.{ran-refused, ran-steps}
+use Rattle.judge.proofs.First.{is-bad, is-fine}
+use borrow.Author.Needs.{needs}
 use Rattle.run_buffered.proofs.run_buffered.Statement.{statement}
 use Rattle.run_buffered.proofs.run_buffered.Tie as tie
 
@@ -36,16 +34,11 @@ enum-told c = search needs
 model-of-requires : tie.Need-model-of-requires
 model-of-requires c κs = search needs
 
-start-cores-requires : tie.Need-start-cores-requires
-start-cores-requires c κs = search needs
-
-steps-requires : tie.Need-steps-requires
-steps-requires c κs =
-    let j = c .before .before .before .before in
+run-fine-requires : tie.Need-run-fine-requires
+run-fine-requires c κs =
+    let j = c .before .before .before in
     let a = j .before .before .before .before .before .before .args in
-    let fine = is-fine (refusals (a .model) (a .t0 .now) (a .t1 .now) (a .t2 .now) (a .t3 .now) (a .threads)) (j .judge .result) (j .judge .ensures) (c .before .before .enum-told .given .1) in
-    let few = none-bad (λ t. admission (a .model) (getD (a .t0 .now ∷ a .t1 .now ∷ a .t2 .now ∷ a .t3 .now ∷ []) t [])) (a .threads) .0 fine .1 in
-    (few, rw (c .start-cores .ensures) (absent-cores (a .registers) (a .threads) few))
+    none-bad (λ t. admission (a .model) (getD (a .t0 .now ∷ a .t1 .now ∷ a .t2 .now ∷ a .t3 .now ∷ []) t [])) (a .threads) .0 (is-fine (refusals (a .model) (a .t0 .now) (a .t1 .now) (a .t2 .now) (a .t3 .now) (a .threads)) (j .judge .result) (j .judge .ensures) (c .before .enum-told .given .1)) .1
 
 returns : tie.Need-returns
 returns c =
@@ -55,13 +48,11 @@ returns c =
 
 returns-2 : tie.Need-returns-2
 returns-2 c =
-    let j = c .before .before .before .before .before in
+    let j = c .before .before .before .before in
     let a = j .before .before .before .before .before .before .args in
-    let fine = is-fine (refusals (a .model) (a .t0 .now) (a .t1 .now) (a .t2 .now) (a .t3 .now) (a .threads)) (j .judge .result) (j .judge .ensures) (c .before .before .before .enum-told .given .1) in
-    c .steps .ensures
-    ∙ ap (λ (m : Model). ranStand (run (coreStep m (a .t0 .now ∷ a .t1 .now ∷ a .t2 .now ∷ a .t3 .now ∷ [])) (items (a .schedule .now)) 0 (world (a .threads) (a .memory) (c .before .start-cores .result)))) (c .before .before .model-of .ensures)
-    ∙ ap (λ (cs : List ThreadState). ranStand (run (coreStep (modelOf (a .model)) (a .t0 .now ∷ a .t1 .now ∷ a .t2 .now ∷ a .t3 .now ∷ [])) (items (a .schedule .now)) 0 (world (a .threads) (a .memory) cs))) (c .before .start-cores .ensures)
-    ∙ ran-steps (a .model) (a .t0 .now ∷ a .t1 .now ∷ a .t2 .now ∷ a .t3 .now ∷ []) (a .memory) (a .registers) (a .schedule .now) (a .threads) fine
+    c .run-fine .ensures
+    ∙ ap (λ (m : Model). ranStand (run (coreStep m (a .t0 .now ∷ a .t1 .now ∷ a .t2 .now ∷ a .t3 .now ∷ [])) (items (a .schedule .now)) 0 (world (a .threads) (a .memory) (startCores (a .registers))))) (c .before .model-of .ensures)
+    ∙ ran-steps (a .model) (a .t0 .now ∷ a .t1 .now ∷ a .t2 .now ∷ a .t3 .now ∷ []) (a .memory) (a .registers) (a .schedule .now) (a .threads) (is-fine (refusals (a .model) (a .t0 .now) (a .t1 .now) (a .t2 .now) (a .t3 .now) (a .threads)) (j .judge .result) (j .judge .ensures) (c .before .before .enum-told .given .1))
 
 pub run-buffered-spec : {M : Type 1} → statement M
 run-buffered-spec =
@@ -72,7 +63,6 @@ run-buffered-spec =
     refused-requires
     enum-told
     model-of-requires
-    start-cores-requires
-    steps-requires
+    run-fine-requires
     returns
     returns-2)
