@@ -6,11 +6,8 @@
 //! second A against the first. A row has the medians of all rounds, and from where to where the middle eight tenths of them
 //! go. Before a row is timed both sides must give the same answer and the same contents of all lent tables.
 //! The baseline is a crate of its own, so that how it is compiled doesn't depend on this file.
-//! Built with `--cfg no_runs` it leaves out the runs, for a library that hasn't got them.
-#![allow(unexpected_cfgs)]
 
 mod library;
-#[cfg(not(no_runs))]
 mod runs;
 
 use std::hint::black_box;
@@ -262,6 +259,5 @@ fn main() {
     readers(budget);
     builders(budget);
     growth(budget);
-    #[cfg(not(no_runs))]
     runs::all(budget);
 }

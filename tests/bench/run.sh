@@ -3,19 +3,15 @@
 # three ways, one run each: where code happens to be placed shifts a ratio by more than the noise within a run, so the last
 # table has the smallest and the largest ratio of the three.
 #
-#     run.sh [--no-runs] [SECONDS [LIBRARY [BESIDE]..]]
+#     run.sh [SECONDS [LIBRARY [BESIDE]..]]
 #
 # SECONDS for each row, 0.5 without it. LIBRARY is the path of libnardiplex.a, with what is to be linked beside it; without
-# one, rt builds it. --no-runs is for a library that has only the reader and the builder.
+# one, rt builds it.
 set -eu
 here=$(cd "$(dirname "$0")" && pwd)
 root=$(dirname "$(dirname "$here")")
 out=$root/target/bench
 flags=
-if [ "${1:-}" = "--no-runs" ]; then
-    flags="--cfg no_runs"
-    shift
-fi
 seconds=${1:-0.5}
 [ $# = 0 ] || shift
 if [ $# = 0 ]; then

@@ -1,6 +1,6 @@
 /* How much stack each function of the library needs: it is called in a thread whose stack was painted before, and the
    deepest byte that lost its paint is looked for. The figure goes from the caller's frame down, so it has the arguments and
-   the return address too. It fails where the header allows less. With NO_RUNS the two runs are left out, for a library that hasn't got them. */
+   the return address too. It fails where the header allows less. */
 #define _GNU_SOURCE
 #include "nardiplex.h"
 
@@ -41,7 +41,6 @@ static void *builds(void *unused) {
     return unused;
 }
 
-#ifndef NO_RUNS
 static uint32_t memory[16], registers[64], schedule[100], state[NARDIPLEX_STATE];
 static size_t schedule_len;
 
@@ -62,7 +61,6 @@ static void *runs_generated(void *unused) {
                             memory, registers, schedule, schedule_len, state, answer);
     return unused;
 }
-#endif
 
 /* Bytes below the caller's frame that were written. */
 static size_t used(void *(*call)(void *)) {
@@ -117,7 +115,6 @@ int main(void) {
         for (model = 0; model < 3; model++)
             for (room = 1; room < 100000; room *= 300) {
                 most(&deepest[2], builds);
-#ifndef NO_RUNS
                 for (schedule_len = 0; schedule_len <= 64; schedule_len++) {
                     /* thread after thread: program steps, and now and then a store reaches memory */
                     size_t k = schedule_len / 2;
@@ -127,14 +124,11 @@ int main(void) {
                     most(&deepest[3], runs_buffered);
                     if (schedule_len % 32 == 0) most(&deepest[4], runs_generated);
                 }
-#endif
             }
     }
     return shown("a thread that calls nothing", deepest[0], NARDIPLEX_STACK_READ) +
            shown("nardiplex_read", deepest[1], NARDIPLEX_STACK_READ) +
-#ifndef NO_RUNS
            shown("nardiplex_run_buffered", deepest[3], NARDIPLEX_STACK_RUN_BUFFERED) +
            shown("nardiplex_run_generated", deepest[4], NARDIPLEX_STACK_RUN_GENERATED) +
-#endif
            shown("nardiplex_build", deepest[2], NARDIPLEX_STACK_BUILD);
 }

@@ -1,13 +1,13 @@
 #!/bin/sh
 # Builds the second program.
 #
-#     build.sh [--out FOLDER] [--no-runs] [LIBRARY [BESIDE]..]
+#     build.sh [--out FOLDER] [LIBRARY [BESIDE]..]
 #
 # vectors: runs the vectors and the known answers against the model. compare_self: the comparison without the library.
 # With the path of libnardiplex.a, and of what is to be linked beside it, also vectors_library: the vectors and the known
 # answers against the library, and compare: the comparison with the library. With the word plain in its place: the same
-# two with the plain baseline of the benchmark, vectors_plain and compare_plain. --no-runs is for a library that has only
-# the reader and the builder. What is built goes into FOLDER, else into target/second.
+# two with the plain baseline of the benchmark, vectors_plain and compare_plain. What is built goes into
+# FOLDER, else into target/second.
 set -eu
 here=$(dirname "$0")
 out=target/second
@@ -16,10 +16,6 @@ if [ "${1:-}" = "--out" ]; then
     shift 2
 fi
 linked="--cfg linked"
-if [ "${1:-}" = "--no-runs" ]; then
-    linked="$linked --cfg no_runs"
-    shift
-fi
 mkdir -p "$out"
 compile() {
     rustc --edition 2021 -O "$@"

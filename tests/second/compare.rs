@@ -115,8 +115,7 @@ impl Counts {
             &[0, 2, 3, 4, 5, 6, 7, 8, 9, 10, 12, 13, 14, 15],
         ];
         let mut whole = true;
-        let calls = if cfg!(no_runs) { 2 } else { 4 };
-        for (i, numbers) in expected.iter().enumerate().take(calls) {
+        for (i, numbers) in expected.iter().enumerate() {
             for number in numbers.iter().filter(|n| self.given[i][**n] == 0) {
                 println!("{} never gave {number}", CALLS[i].1);
                 whole = false;

@@ -1,9 +1,7 @@
 //! The library through its C interface. Lent tables are filled with junk first, and numbers before and behind each must
-//! stay as they were. Built with `--cfg no_runs` it does without the runs, for a library that hasn't got them.
+//! stay as they were.
 
-#[cfg(not(no_runs))]
-use crate::input::Run;
-use crate::input::{Given, Input};
+use crate::input::{Given, Input, Run};
 
 #[allow(clippy::too_many_arguments)]
 mod c {
@@ -19,7 +17,6 @@ mod c {
             edges_len: usize,
             answer: *mut u64,
         );
-        #[cfg(not(no_runs))]
         pub fn nardiplex_run_buffered(
             model: u32,
             threads: u32,
@@ -38,7 +35,6 @@ mod c {
             state: *mut u32,
             answer: *mut u64,
         );
-        #[cfg(not(no_runs))]
         pub fn nardiplex_run_generated(
             model: u32,
             threads: u32,
@@ -132,15 +128,11 @@ pub fn given(input: &Input) -> Vec<Given> {
             };
             vec![Given { call: 't', answer, tables: vec![n.contents(), e.contents()] }]
         }
-        #[cfg(not(no_runs))]
         Input::Run(run) => vec![buffered(run), generated(run)],
-        #[cfg(no_runs)]
-        Input::Run(_) => vec![],
         Input::Print { .. } => vec![],
     }
 }
 
-#[cfg(not(no_runs))]
 fn buffered(run: &Run) -> Given {
     let mut answer = NO_ANSWER;
     let mut state = Lent::new(216);
@@ -168,7 +160,6 @@ fn buffered(run: &Run) -> Given {
     Given { call: 'b', answer, tables: vec![state.contents()] }
 }
 
-#[cfg(not(no_runs))]
 fn generated(run: &Run) -> Given {
     let mut answer = NO_ANSWER;
     let mut state = Lent::new(216);
