@@ -1,13 +1,14 @@
--- The law of a turn in place: a part of a flat array that is written back is that thread's part, and the other threads keep theirs.
+-- The law of a turn in place: it sets the thread that moves, and the other threads keep what is theirs.
 use mathlib.Core.Path.{_≡_, refl, sym, ap, _∙_}
+use mathlib.Core.Logic.{_≢_}
 use mathlib.Core.Bool.{Bool, true, false}
 use mathlib.Core.Option.{none, some}
-use Prim.Native.Nat.{ℕ, zero, suc, _+_, _*_, _-_, _≤_, _<_}
+use Prim.Native.Nat.{ℕ, _*_, _≤_, _<_}
 use native.Mathlib.Omega.{arith}
-use mathlib.Core.List.{List, [], _∷_, _++_}
-use lib.ListN.{length, getD, take, drop, set, length-drop, take-append-drop}
-use lib.Seq.{length-take-le, take-append-le, drop-append-le, take-at, drop-at, drop-drop, getD-set-same, getD-set-other, set-getD, drop-set-lt}
-use borrow.Rule.Slice.PartMut.{putMid, drop-put}
+use mathlib.Core.List.{List, []}
+use lib.ListN.{length, getD, take, drop, set}
+use lib.Seq.{getD-set-same, getD-set-other, set-getD, drop-set-lt}
+use borrow.Rule.Slice.PartMut.{putMid}
 use Rattle.thread.specs.Numbers.{_!_}
 use Rattle.graphs.specs.Records.{node}
 use Rattle.runs.specs.Run.{takes}
@@ -17,35 +18,10 @@ use Rattle.step.specs.declared.Change.the-variants as C
 use Rattle.step.specs.declared.Moved.{Moved}
 use Rattle.step.specs.declared.Stepped.{Stepped}
 use Rattle.step.specs.Step.{decidedSought, stays, applied, searched, left}
-use Rattle.shown.specs.Ran.{four, world}
+use Rattle.shown.specs.Ran.{world}
+use Rattle.shown.proofs.Parts.{part-own, part-other, lent-length, four-at, set-four}
 use Rattle.shown.proofs.Turns.{takes-absent, takes-past, takes-none, takes-some}
 use Rattle.flat.specs.Flat.{threadAt, flat, taken, soughtStep, Turned, TurnedIn, Done}
-
--- the w numbers from b on, of a list that begins with p
-within : (w b : ℕ) (p q : List ℕ) → b + w ≤ length p → take w (drop b (p ++ q)) ≡ take w (drop b p)
-within w b p q h = ap (take w) (drop-append-le b p q (omega arith)) ∙ take-append-le w (drop b p) q (rw length-drop (omega arith))
-
--- ys in the place of the w numbers from a on
-module _ (w a : ℕ) (l ys : List ℕ) (n : length ys ≡ w) (inside : a + w ≤ length l) where
-  front : length (take a l) ≡ a
-  front = length-take-le a l (omega arith)
-
-  part-own : take w (drop a (putMid a w l ys)) ≡ ys
-  part-own = ap (take w) (drop-at (take a l) (ys ++ drop w (drop a l)) a front) ∙ take-at ys (drop w (drop a l)) w n
-
-  part-before : (b : ℕ) → b + w ≤ a → take w (drop b (putMid a w l ys)) ≡ take w (drop b l)
-  part-before b h =
-      within w b (take a l) (ys ++ drop w (drop a l)) (omega (arith, front))
-      ∙ sym (within w b (take a l) (drop a l) (omega (arith, front)))
-      ∙ ap (λ (k : List ℕ). take w (drop b k)) (take-append-drop a l)
-
-  part-after : (b : ℕ) → a + w ≤ b → take w (drop b (putMid a w l ys)) ≡ take w (drop b l)
-  part-after b h =
-      let e : a + w - a ≡ w = omega arith in
-      let k : a + w + (b - (a + w)) ≡ b = omega arith in
-      let d : drop (a + w) (putMid a w l ys) ≡ drop (a + w) l = rw e at (drop-put a (a + w) l ys (omega arith) inside (omega (arith, n))) in
-      let f : (m : List ℕ) → drop (b - (a + w)) (drop (a + w) m) ≡ drop b m = λ m. drop-drop (b - (a + w)) (a + w) m ∙ ap (λ (j : ℕ). drop j m) k in
-      ap (take w) (sym (f (putMid a w l ys)) ∙ ap (drop (b - (a + w))) d ∙ f l)
 
 -- Thread t goes to node v, and its registers and auxiliary values become ys and zs.
 module _ (N R A : List ℕ) (t : ℕ) (lt : t < 4) (four-nodes : length N ≡ 4) (all-registers : length R ≡ 64) (all-auxiliaries : length A ≡ 256)
@@ -69,32 +45,15 @@ module _ (N R A : List ℕ) (t : ℕ) (lt : t < 4) (four-nodes : length N ≡ 4)
       let r = part-own 64 (64 * t) A zs sixty-four (omega arith) in
       λ i. record { node = node (p i); registers = q i; auxiliaries = r i }
 
-  lower : (u : ℕ) → u < t → threadAt N′ R′ A′ u ≡ threadAt N R A u
-  lower u h =
-      let p : N′ ! u ≡ N ! u = getD-set-other N t u v 0 (λ e. omega arith) in
-      let q = part-before 16 (16 * t) R ys sixteen (omega arith) (16 * u) (omega arith) in
-      let r = part-before 64 (64 * t) A zs sixty-four (omega arith) (64 * u) (omega arith) in
+  others : (u : ℕ) → u ≢ t → threadAt N′ R′ A′ u ≡ threadAt N R A u
+  others u d =
+      let p : N′ ! u ≡ N ! u = getD-set-other N t u v 0 d in
+      let q = part-other 16 t R ys sixteen (omega arith) u d in
+      let r = part-other 64 t A zs sixty-four (omega arith) u d in
       λ i. record { node = node (p i); registers = q i; auxiliaries = r i }
-
-  upper : (u : ℕ) → t < u → threadAt N′ R′ A′ u ≡ threadAt N R A u
-  upper u h =
-      let p : N′ ! u ≡ N ! u = getD-set-other N t u v 0 (λ e. omega arith) in
-      let q = part-after 16 (16 * t) R ys sixteen (omega arith) (16 * u) (omega arith) in
-      let r = part-after 64 (64 * t) A zs sixty-four (omega arith) (64 * u) (omega arith) in
-      λ i. record { node = node (p i); registers = q i; auxiliaries = r i }
-
-set-four : {T : Type 0} (f g : ℕ → T) (t : ℕ) (x : T) → t < 4 → g t ≡ x → ((u : ℕ) → u < t → g u ≡ f u) → ((u : ℕ) → t < u → g u ≡ f u) → four g ≡ set (four f) t x
-set-four f g zero x h e l k = λ i. e i ∷ k 1 (omega arith) i ∷ k 2 (omega arith) i ∷ k 3 (omega arith) i ∷ []
-set-four f g (suc zero) x h e l k = λ i. l 0 (omega arith) i ∷ e i ∷ k 2 (omega arith) i ∷ k 3 (omega arith) i ∷ []
-set-four f g (suc (suc zero)) x h e l k = λ i. l 0 (omega arith) i ∷ l 1 (omega arith) i ∷ e i ∷ k 3 (omega arith) i ∷ []
-set-four f g (suc (suc (suc zero))) x h e l k = λ i. l 0 (omega arith) i ∷ l 1 (omega arith) i ∷ l 2 (omega arith) i ∷ e i ∷ []
-set-four f g (suc (suc (suc (suc t)))) x h e l k = absurd (omega arith)
 
 -- the code's way to `Done`: j and k are the widths of the parts that were lent, s is what the step in place answers
 module _ (N R A : List ℕ) (t : ℕ) (lt : t < 4) (n : length N ≡ 4) (r : length R ≡ 64) (a : length A ≡ 256) (j k : ℕ) (ej : j ≡ 16) (ek : k ≡ 64) where
-  lent-length : (w b i : ℕ) (l ys : List ℕ) → i ≡ w → b + w ≤ length l → length ys ≡ length (take i (drop b l)) → length ys ≡ w
-  lent-length w b i l ys e h f = f ∙ ap (λ (m : ℕ). length (take m (drop b l))) e ∙ length-take-le w (drop b l) (rw length-drop (omega arith))
-
   pub done-in-place : (table : List ℕ) (c : ℕ) (M : List ℕ) (s : Stepped) (M′ ys zs : List ℕ)
       → length ys ≡ length (take j (drop (16 * t) R)) → length zs ≡ length (take k (drop (64 * t) A))
       → left s M′ ys zs ≡ searched table c M (record { node = node (N ! t); registers = take j (drop (16 * t) R); auxiliaries = take k (drop (64 * t) A) })
@@ -109,7 +68,7 @@ module _ (N R A : List ℕ) (t : ℕ) (lt : t < 4) (n : length N ≡ 4) (r : len
         ok = refl;
         memory = refl;
         threads = set-four (threadAt N R A) (threadAt (set N t v) (putMid (16 * t) 16 R ys) (putMid (64 * t) 64 A zs)) t (record { node = node v; registers = ys; auxiliaries = zs }) lt
-            (own N R A t lt n r a v ys zs p q) (lower N R A t lt n r a v ys zs p q) (upper N R A t lt n r a v ys zs p q);
+            (own N R A t lt n r a v ys zs p q) (others N R A t lt n r a v ys zs p q);
       })
 
 -- where there is no step, nothing changes
@@ -144,14 +103,7 @@ module _ (tables : List (List ℕ)) (count t c : ℕ) (M N R A : List ℕ) where
     moved = searched (getD tables t []) c M (threadAt N R A t)
 
     at-four : getD ts t (threadAt N R A t) ≡ threadAt N R A t
-    at-four = go t lt
-      where
-        go : (u : ℕ) → u < 4 → getD ts u (threadAt N R A u) ≡ threadAt N R A u
-        go zero h = refl
-        go (suc zero) h = refl
-        go (suc (suc zero)) h = refl
-        go (suc (suc (suc zero))) h = refl
-        go (suc (suc (suc (suc u)))) h = refl
+    at-four = four-at (threadAt N R A) t (threadAt N R A t) lt
 
     stepped : soughtStep tables t c (record { memory = M; own = getD ts t (threadAt N R A t) }) ≡ taken moved
     unfolding soughtStep

@@ -20,7 +20,8 @@ use Rattle.checks.proofs.Loops.{leads-inside}
 use Rattle.checks.proofs.Given.{Admitted, admitted}
 use Rattle.runs.specs.Run.{In, Stand, items, run, Bad, threadsRefused, endOf}
 use Rattle.runs.specs.Start.{Start, tableOf, registersOf, startWorld}
-use Rattle.runs.specs.Shown.{nameOf, valueOf, nobody, shownThread, shownState}
+use Rattle.runs.specs.declared.Ended.the-variants as E
+use Rattle.runs.specs.Shown.{nameOf, valueOf, nobody, shownThread, shownState, zeroState}
 use Rattle.runs.proofs.Worlds.{within, Each, viewWorld, viewStand, same-runs}
 use Rattle.buffered.specs.Machine.{varOf, Buffered, bufferedStep, Comes, comes-start, comes-step}
 use Rattle.buffered.specs.RunBuffered.{startThread, pairShown, shownBuffered, standBuffered, resultBuffered, runBuffered}
@@ -32,9 +33,9 @@ use Rattle.shown.specs.declared.ThreadState.{ThreadState}
 use Rattle.buffer.specs.States.{valOf, coreOf}
 use Rattle.buffer.specs.Step.{stepped}
 use Rattle.buffer.proofs.Steps.{movedOf, step-is}
-use Rattle.shown.specs.Ran.{startOf, threadState, nobodyState, world}
+use Rattle.shown.specs.Ran.{startOf, threadState, nobodyState, world, ranOf}
 use Rattle.run_buffered.specs.Ran.{bufferedRan}
-use Rattle.run_buffered.specs.Cores.{startCores, taken, coreStep, reached, ranStand, refusedRan}
+use Rattle.run_buffered.specs.Cores.{startCores, taken, coreStep, reached, ranStand}
 use Rattle.run_buffered.proofs.Starts.{begin-cores}
 
 -- One thread that is free of 2 to 10: the code's step is the buffered step.
@@ -135,7 +136,7 @@ module _ (m : ℕ) (tables : List (List ℕ)) (M all sched : List ℕ) (count : 
   refusals = threadsRefused (λ t. admission m (getD tables t [])) count
 
   -- 14, or 2 to 10
-  pub ran-refused : (t : ℕ) (r : Refusal) → refusals ≡ some (record { thread = t; refusal = r }) → refusedRan t r ≡ bufferedRan (runBuffered start)
+  pub ran-refused : (t : ℕ) (r : Refusal) → refusals ≡ some (record { thread = t; refusal = r }) → ranOf (E.Refused t r) zeroState ≡ bufferedRan (runBuffered start)
   unfolding runBuffered
   ran-refused t r e = rw (e, runBuffered)
 

@@ -16,13 +16,13 @@ use Rattle.runs.specs.declared.Ended.{Ended}
 use Rattle.runs.specs.Run.{In, Stand}
 use Rattle.shown.specs.declared.ThreadState.{ThreadState}
 use Rattle.shown.specs.Ran.{nobodyState}
+use Rattle.shown.proofs.Parts.{four-at}
 use Rattle.shown.proofs.Turns as turns
 use Rattle.buffer.specs.declared.Moved.{Moved}
 use Rattle.buffer.specs.Step.{stepped}
 use Rattle.buffer.proofs.Cases.{stepped-still}
 use Rattle.run_buffered.specs.Cores.{taken, coreStep, ranOfPresent, reached, withAbsent, ranStand}
 use Rattle.run_buffered.specs.Flat.{Flat, threadIn, threadsIn, TurnIs}
-use Rattle.run_buffered.proofs.Flat.{thread-at}
 
 not-taken : (r : Moved) (ok : Bool) → ok ≡ r .ok → not ok ≡ true → taken r ≡ none
 unfolding taken
@@ -53,7 +53,7 @@ module _ (m : Model) (tables : List (List ℕ)) (count : ℕ) (s : List ℕ) (p 
     -- what the run does with the thread
     stepping : step (s ! p) (s ! (p + 1)) (record { memory = M; own = getD (threadsIn f) (s ! p) nobodyState }) ≡ taken moved
     unfolding coreStep
-    stepping = rw (thread-at f (s ! p) nobodyState (omega arith), ← e)
+    stepping = rw (four-at (threadIn f) (s ! p) nobodyState (omega arith), ← e)
 
     module _ (k : not ok ≡ true) where
       still : moved ≡ record { ok = false; memory = M; core = threadIn f (s ! p) }
@@ -67,7 +67,7 @@ module _ (m : Model) (tables : List (List ℕ)) (count : ℕ) (s : List ℕ) (p 
           sym
           (is .threads
           ∙ ap (λ (v : Moved). set (threadsIn f) (s ! p) (v .core)) still
-          ∙ ap (set (threadsIn f) (s ! p)) (sym (thread-at f (s ! p) nobodyState (omega arith)))
+          ∙ ap (set (threadsIn f) (s ! p)) (sym (four-at (threadIn f) (s ! p) nobodyState (omega arith)))
           ∙ set-getD (threadsIn f) (s ! p) nobodyState)
 
       -- no such choice: all is as before

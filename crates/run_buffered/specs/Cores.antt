@@ -5,12 +5,10 @@ use Prim.Native.Nat.{ℕ, _-_}
 use mathlib.Core.List.{List, [], _∷_, _++_}
 use lib.ListN.{length, getD, replicate}
 use Rattle.thread.specs.declared.Model.{Model}
-use Rattle.thread.specs.declared.Refusal.{Refusal}
-use Rattle.thread.specs.Sizes.{variables, mostWaiting, mostThreads}
+use Rattle.thread.specs.Sizes.{mostWaiting, mostThreads}
 use Rattle.thread.specs.Numbers.{zeros}
 use Rattle.thread.specs.Table.{line, instrAt}
 use Rattle.runs.specs.declared.Ended.{Ended}
-use Rattle.runs.specs.declared.Ended.the-variants as E
 use Rattle.runs.specs.Run.{In, Stand, endOf}
 use Rattle.shown.specs.declared.ThreadState.{ThreadState}
 use Rattle.buffer.specs.declared.Moved.{Moved}
@@ -51,7 +49,3 @@ withAbsent r = ranOfPresent (r .ended) (r .memory) (r .threads ++ replicate (mos
 unfoldable pub ranStand : Stand ThreadState → Ran
 unfolding reached
 ranStand e = withAbsent (reached e)
-
--- "A refusal zeroes .. state and count"
-abbrev pub refusedRan : ℕ → Refusal → Ran
-refusedRan t r = record { ended = E.Refused t r; memory = zeros variables; threads = replicate mostThreads nobodyState }

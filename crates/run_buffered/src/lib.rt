@@ -4,22 +4,23 @@ use judge::Judged;
 use runs::Ended;
 use shown::Ran;
 use shown::ThreadState;
+use shown::nobody;
+use shown::refused;
 use thread::Instr;
 use thread::Line;
 use thread::Model;
-use thread::Refusal;
 ghost use mathlib.Core.Path.{_≡_};
 ghost use mathlib.Core.Bool.{cond};
 ghost use mathlib.Core.List.{[], _∷_, _++_};
 ghost use Prim.Native.Nat.{_-_, _<_, _≤_};
-ghost use lib.ListN.{length, getD, take, replicate};
+ghost use lib.ListN.{getD, take, replicate};
 ghost use Rattle.thread.specs.Table.{instrAt};
 ghost use Rattle.checks.specs.Checks.{modelOf};
 ghost use Rattle.runs.specs.Run.{items, run};
 ghost use Rattle.buffered.specs.RunBuffered.{runBuffered};
-ghost use Rattle.run_buffered.specs.Cores.{startCores, coreStep, ranOfPresent, reached, ranStand, refusedRan};
+ghost use Rattle.run_buffered.specs.Cores.{startCores, coreStep, ranOfPresent, reached, ranStand};
 ghost use lib.Dec.{ltb};
-ghost use Rattle.shown.specs.Ran.{cut, startOf, nobodyState, world};
+ghost use Rattle.shown.specs.Ran.{startOf, nobodyState, world};
 ghost use Rattle.run_buffered.specs.Flat.{flat, threadIn, threadsIn, Sized, TurnIs};
 ghost use Rattle.run_buffered.specs.Ran.{bufferedRan};
 
@@ -118,32 +119,6 @@ fn steps(
     Ended::Done(done)
 }
 
-// the 16 numbers of thread `t`, of 64
-fn part(all: &[u32], t: usize) -> [u32; 16]
-    requires { ⌜ (t < 4) × (length (now all) ≡ 64) ⌝ }
-    ensures { λ r. ⌜ r ≡ cut (now (all .entry)) t ⌝ }
-{
-    let mut own = [0u32; 16];
-    let mut j: usize = 0;
-    while j < 16 {
-        own[j] = all[16 * t + j];
-        j += 1;
-    }
-    own
-}
-
-fn nobody() -> ThreadState
-    ensures { λ r. ⌜ r ≡ nobodyState ⌝ }
-{
-    ThreadState {
-        line: Line(0),
-        registers: [0u32; 16],
-        names: [0u32; 16],
-        values: [0u32; 16],
-        count: 0,
-    }
-}
-
 // thread `t` as it is shown; one that is not there is all 0
 fn show_thread(
     threads: u32,
@@ -163,9 +138,9 @@ fn show_thread(
     let own = t as usize;
     ThreadState {
         line: Line(lines[own]),
-        registers: part(registers, own),
-        names: part(names, own),
-        values: part(values, own),
+        registers: shown::part(registers, t),
+        names: shown::part(names, t),
+        values: shown::part(values, t),
         count: counts[own],
     }
 }
@@ -227,17 +202,6 @@ fn run_fine(
         ended,
         memory,
         threads: show_threads(threads, &lines, &counts, &registers, &names, &values),
-    }
-}
-
-// "A refusal zeroes .. state and count"
-fn refused(t: u32, refusal: Refusal) -> Ran
-    ensures { λ r. ⌜ r ≡ refusedRan t refusal ⌝ }
-{
-    Ran {
-        ended: Ended::Refused(t, refusal),
-        memory: [0u32; 16],
-        threads: [nobody(); 4],
     }
 }
 

@@ -3,6 +3,7 @@ use Prim.Native.Nat.{ℕ, _*_}
 use mathlib.Core.List.{List, [], _∷_, map}
 use lib.ListN.{take, drop}
 use Rattle.thread.specs.Sizes.{registers}
+use Rattle.thread.specs.Numbers.{filled}
 use Rattle.runs.specs.declared.Ended.{Ended}
 use Rattle.runs.specs.Run.{World}
 use Rattle.runs.specs.Start.{Start}
@@ -17,6 +18,11 @@ four f = f 0 ∷ f 1 ∷ f 2 ∷ f 3 ∷ []
 -- the 16 registers of thread t, of 64
 abbrev pub cut : List ℕ → ℕ → List ℕ
 cut all t = take registers (drop (registers * t) all)
+
+-- the same of any list; 0 past its end
+unfoldable pub partOf : List ℕ → ℕ → List ℕ
+unfolding filled
+partOf all t = filled registers (cut all t)
 
 -- what a run is given: four tables, of which the first `count` are read, and 16 registers a thread
 abbrev pub startOf : ℕ → ℕ → List (List ℕ) → List ℕ → List ℕ → List ℕ → Start

@@ -4,7 +4,7 @@ use thread::Line;
 use thread::Refusal;
 ghost use mathlib.Core.Path.{_≡_};
 ghost use Rattle.runs.specs.Shown.{zeroState};
-ghost use Rattle.shown.specs.Ran.{nobodyState, ranOf};
+ghost use Rattle.shown.specs.Ran.{partOf, nobodyState, ranOf};
 
 // a thread as it is shown: the first `count` names (variables, or store lines) and values wait, in order; unused places are 0
 pub struct ThreadState {
@@ -20,6 +20,20 @@ pub struct Ran {
     pub ended: Ended,
     pub memory: [u32; 16],
     pub threads: [ThreadState; 4],
+}
+
+// the 16 numbers of thread `t`, of a flat list; 0 past its end
+pub fn part(all: &[u32], t: u32) -> [u32; 16]
+    ensures { λ r. ⌜ r ≡ partOf (now (all .entry)) t ⌝ }
+{
+    let first = 16 * (t as usize);
+    let mut own = [0u32; 16];
+    let mut j: usize = 0;
+    while j < 16 {
+        own[j] = thread::number(all, first + j);
+        j += 1;
+    }
+    own
 }
 
 // a thread that is not there

@@ -9,7 +9,6 @@ ghost use mathlib.Core.List.{[], _∷_};
 ghost use Prim.Native.Nat.{_+_, _^_, _<_};
 ghost use lib.ListN.{length, getD};
 ghost use Rattle.step.specs.Step.{held};
-ghost use Rattle.shown.specs.Ran.{cut};
 ghost use Rattle.flat.specs.Flat.{threadAt, flat};
 ghost use Rattle.states.specs.States.{nameAt, valueAt, names, values, stateAt, stateOf, ranAt};
 
@@ -62,20 +61,6 @@ fn values_at(auxiliaries: &[u32], nodes: &[u32], start: usize, count: u32) -> [u
     shown
 }
 
-// the 16 registers of thread `t`
-fn cut_registers(registers: &[u32], t: usize) -> [u32; 16]
-    requires { ⌜ (t < 4) × (length (now registers) ≡ 64) ⌝ }
-    ensures { λ r. ⌜ r ≡ cut (now (registers .entry)) t ⌝ }
-{
-    let mut own = [0u32; 16];
-    let mut j: usize = 0;
-    while j < 16 {
-        own[j] = registers[16 * t + j];
-        j += 1;
-    }
-    own
-}
-
 // "a generated thread shows the store lines of its node with their auxiliary values"
 fn state_at(table: &[u32], node: Node, registers: [u32; 16], auxiliaries: &[u32]) -> ThreadState
     ensures { λ r. ⌜ r ≡ stateAt (now (table .entry)) (held node registers (now (auxiliaries .entry))) ⌝ }
@@ -96,7 +81,7 @@ fn state_at(table: &[u32], node: Node, registers: [u32; 16], auxiliaries: &[u32]
 // thread `t`, if it is present, by its node table
 fn state_of(
     threads: u32,
-    t: usize,
+    t: u32,
     table: &[u32],
     nodes: &[u32],
     registers: &[u32],
@@ -105,10 +90,11 @@ fn state_of(
     requires { ⌜ (t < 4) × (length (now nodes) ≡ 4) × (length (now registers) ≡ 64) × (length (now auxiliaries) ≡ 256) ⌝ }
     ensures { λ r. ⌜ r ≡ stateOf threads t (now (table .entry)) (threadAt (now (nodes .entry)) (now (registers .entry)) (now (auxiliaries .entry)) t) ⌝ }
 {
-    if t < threads as usize {
-        let a = 64 * t;
-        let own = cut_registers(registers, t);
-        return state_at(table, Node(nodes[t]), own, &auxiliaries[a..a + 64]);
+    if t < threads {
+        let i = t as usize;
+        let a = 64 * i;
+        let own = shown::part(registers, t);
+        return state_at(table, Node(nodes[i]), own, &auxiliaries[a..a + 64]);
     }
     shown::nobody()
 }

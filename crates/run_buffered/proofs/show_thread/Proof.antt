@@ -1,7 +1,10 @@
 -- `show_thread` cuts a thread out of the flat lists.
+use mathlib.Core.Path.{_∙_}
+use native.Mathlib.Omega.{arith}
 use Rattle.lists.proofs.Tests.{lt-true, lt-false}
 use Rattle.thread.specs.Numbers.{_!_}
 use Rattle.thread.specs.Table.{line}
+use Rattle.shown.proofs.Copying.{part-cut}
 use Rattle.chosen.specs.Decide.{threadOf}
 use borrow.Author.Needs.{needs}
 use Rattle.run_buffered.proofs.show_thread.Statement.{statement}
@@ -37,10 +40,11 @@ shared-slice-read-t19 c = search needs
 returns-2 : tie.Need-returns-2
 returns-2 c =
     let t = c .before .before .before .before .before in
-    let a = t .before .before .before .before .before .before .args in
-    let p = c .before .before .before .part .ensures in
-    let q = c .before .before .part2 .ensures in
-    let r = c .before .part3 .ensures in
+    let s = t .before .before .before .before .before .before in
+    let a = s .args in
+    let p = c .before .before .before .part .ensures ∙ part-cut (a .registers .now) (a .t) (omega (arith, s .pre .0, s .pre .1 .registers)) in
+    let q = c .before .before .part2 .ensures ∙ part-cut (a .names .now) (a .t) (omega (arith, s .pre .0, s .pre .1 .names)) in
+    let r = c .before .part3 .ensures ∙ part-cut (a .values .now) (a .t) (omega (arith, s .pre .0, s .pre .1 .values)) in
     rw (lt-true (a .t) (a .threads) (t .if1 .left)) (λ i. threadOf (line (a .lines .now ! a .t)) (a .counts .now ! a .t) (p i) (q i) (r i))
 
 pub show-thread-spec : {M : Type 1} → statement M

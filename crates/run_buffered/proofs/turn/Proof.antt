@@ -1,4 +1,5 @@
 -- `turn` lends thread t its part of each list, and stores its line and count.
+use Prim.Native.Nat.{_+_, _*_, _-_}
 use native.Mathlib.Omega.{arith}
 use Rattle.run_buffered.specs.Flat.{flat}
 use Rattle.run_buffered.proofs.Flat.{turn-in-place}
@@ -98,7 +99,7 @@ returns c =
     let n = c .before .before .before .before .before .before .before .before .before in
     let s = n .before .before .before .before .before .before .before .before .before .before .before .before .before in
     let a = s .args in
-    turn-in-place (flat (a .lines .now) (a .counts .now) (a .regs .now) (a .names .now) (a .values .now)) (s .pre .1) (a .t) (s .pre .0) (a .model) (a .instr) (a .choice) (a .memory .now) (n .turn .result) _ _ _ _ (n .turn .ensures) (n .turn .kept .1 .1 .1 .1 .1 .1 .0) (n .turn .kept .1 .1 .1 .1 .1 .1 .1 .0) (n .turn .kept .1 .1 .1 .1 .1 .1 .1 .1 .0)
+    turn-in-place (flat (a .lines .now) (a .counts .now) (a .regs .now) (a .names .now) (a .values .now)) (s .pre .1) (a .t) (s .pre .0) (16 * a .t + 16 - 16 * a .t) (omega arith) (a .model) (a .instr) (a .choice) (a .memory .now) (n .turn .result) _ _ _ _ (n .turn .ensures) (n .turn .kept .1 .1 .1 .1 .1 .1 .0) (n .turn .kept .1 .1 .1 .1 .1 .1 .1 .0) (n .turn .kept .1 .1 .1 .1 .1 .1 .1 .1 .0)
 
 pub turn-spec : {M : Type 1} → statement M
 turn-spec =

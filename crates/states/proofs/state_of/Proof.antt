@@ -1,8 +1,10 @@
 -- `state_of` shows a thread that is present, and zeros for another.
-use mathlib.Core.Path.{_≡_}
+use mathlib.Core.Path.{_≡_, _∙_}
 use Prim.Native.Nat.{_+_, _*_, _-_}
 use native.Mathlib.Omega.{arith}
 use Rattle.lists.proofs.Tests.{lt-true, lt-false}
+use Rattle.shown.specs.Ran.{cut}
+use Rattle.shown.proofs.Copying.{part-cut}
 use Rattle.states.specs.States.{stateOf}
 use borrow.Author.Needs.{needs}
 use Rattle.states.proofs.state_of.Statement.{statement}
@@ -11,8 +13,8 @@ use Rattle.states.proofs.state_of.Tie as tie
 mul-a : tie.Need-mul-a
 mul-a c = search needs
 
-cut-registers-requires : tie.Need-cut-registers-requires
-cut-registers-requires c κs = search needs
+part-requires : tie.Need-part-requires
+part-requires c κs = search needs
 
 mul-t11 : tie.Need-mul-t11
 mul-t11 c = search needs
@@ -41,9 +43,11 @@ state-at-requires c κs = search needs
 returns : tie.Need-returns
 unfolding stateOf
 returns c =
-    let a = c .before .before .before .before .before .before .before .before .before .args in
+    let b = c .before .before .before .before .before .before .before .before .before in
+    let a = b .args in
     let e : 64 * a .t + 64 - 64 * a .t ≡ 64 = omega arith in
-    rw (lt-true (a .t) (a .threads) (c .before .before .before .before .if1 .taken)) (rw (c .before .before .before .cut-registers .ensures, e) at (c .state-at .ensures))
+    let own : c .before .before .before .part .result ≡ cut (a .registers .now) (a .t) = c .before .before .before .part .ensures ∙ part-cut (a .registers .now) (a .t) (omega (arith, b .pre .0, b .pre .2)) in
+    rw (lt-true (a .t) (a .threads) (c .before .before .before .before .if1 .taken)) (rw (own, e) at (c .state-at .ensures))
 
 nobody-requires : tie.Need-nobody-requires
 nobody-requires c κs = search needs
@@ -57,7 +61,7 @@ state-of-spec =
     tie.close
     (tie.spec
     mul-a
-    cut-registers-requires
+    part-requires
     mul-t11
     shared-slice-read-t13
     add-state-at
