@@ -8,6 +8,7 @@ use lib.ListN.{length, getD, replicate, length-map, List·getD-append, List·get
 use Rattle.lists.specs.Lists.{each}
 use Rattle.thread.specs.declared.Line.{Line}
 use Rattle.thread.specs.Sizes.{mostWaiting}
+use Rattle.thread.proofs.Filled.{filled-at}
 use Rattle.thread.specs.Numbers.{_!_, zeros, filled}
 use Rattle.thread.specs.Table.{line, Prog, varAt}
 use Rattle.runs.specs.Shown.{Waited, ShownThread, nameOf, valueOf, shownThread, nobody}
@@ -34,10 +35,6 @@ count-same : (prog : Prog) (A : List ℕ) (w : List Line) → length (map pairSh
 count-same prog A [] = refl
 count-same prog A (l ∷ w) = ap suc (count-same prog A w)
 
-filled-at : (l : List ℕ) (room i : ℕ) → i < length l → filled room l ! i ≡ l ! i
-unfolding filled
-filled-at l room i h = List·getD-append l (zeros (room - length l)) 0 i h
-
 pub same-shown : (prog : Prog) (A R : List ℕ) (l : Line) (w : List Line) → SameThread prog (shownThread l R (map pairShown (map (pairOf prog A) w))) (shownThread l R (map (lineShown A) w))
 unfolding shownThread
 same-shown prog A R l w = record {
@@ -48,21 +45,11 @@ same-shown prog A R l w = record {
   variables = λ i h.
       let n : length (map (lineShown A) w) ≡ length w = length-map w (lineShown A) in
       let j : i < length w = omega arith in
-      let p : i < length (map nameOf (map pairShown (map (pairOf prog A) w))) = rw (length-map, length-map, length-map) j in
-      let q : i < length (map nameOf (map (lineShown A) w)) = rw (length-map, length-map) j in
-      rw (filled-at (map nameOf (map pairShown (map (pairOf prog A) w))) mostWaiting i p, filled-at (map nameOf (map (lineShown A) w)) mostWaiting i q) (name-at prog A w i j);
+      rw (filled-at mostWaiting (map nameOf (map pairShown (map (pairOf prog A) w))) i, filled-at mostWaiting (map nameOf (map (lineShown A) w)) i) (name-at prog A w i j);
 }
 
 pub same-nobody : (prog : Prog) → SameThread prog nobody nobody
 same-nobody prog = record { line = refl; registers = refl; count = refl; values = refl; variables = λ i h. absurd (omega arith) }
-
--- past the end there is the default, also where it is written out
-pub padded : {A : Type 0} (l : List A) (k t : ℕ) (d : A) → getD (l ++ replicate k d) t d ≡ getD l t d
-padded [] zero t d = refl
-padded [] (suc k) zero d = refl
-padded [] (suc k) (suc t) d = padded [] k t d
-padded (a ∷ l) k zero d = refl
-padded (a ∷ l) k (suc t) d = padded l k t d
 
 -- thread by thread
 pub same-each : {T : Type 0} (prog : ℕ → Prog) (G : ℕ → T → Type 0) (b g : ℕ → T → ShownThread) → ((t : ℕ) (a : T) → G t a → SameThread (prog t) (b t a) (g t a))

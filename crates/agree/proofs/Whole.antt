@@ -35,7 +35,8 @@ use Rattle.agree.specs.Demands.{AllAccepted, SameThread, Agree, upTo, De
 use Rattle.agree.proofs.Middle.{shows}
 use Rattle.agree.proofs.Numbers.{named}
 use Rattle.agree.proofs.Threads.{nodesOf, viewBy, view, Alive, nodes-are, same-thread, stays-alive}
-use Rattle.agree.proofs.Shown.{same-shown, padded, same-each}
+use Rattle.thread.proofs.Filled.{padded}
+use Rattle.agree.proofs.Shown.{same-shown, same-each}
 use Rattle.agree.proofs.Refusals.{none-bad}
 
 -- an answer with number 0 is no refusal

@@ -20,10 +20,6 @@ module _ (l : List ℕ) where
   unfolding filled
   filled-taken n e = rw e (take-append-seam l (zeros (16 - length l)))
 
-  pub filled-at : (i : ℕ) → i < length l → filled 16 l ! i ≡ l ! i
-  unfolding filled
-  filled-at i h = List·getD-append l (zeros (16 - length l)) 0 i h
-
   pub put-filled : (i a : ℕ) → i ≤ length l → length l < 16 → putIn i a (filled 16 l) ≡ filled 16 (putAt i a l)
   unfolding putIn filled
   put-filled i a h few =

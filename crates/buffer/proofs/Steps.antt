@@ -11,6 +11,7 @@ use lib.ListN.{length, getD, set, take, drop, length-map, length-append, length-
 use lib.Dec.{eqb, leb}
 use Rattle.lists.proofs.Lists.{Holds}
 use Rattle.lists.proofs.Tests.{le-true, le-false, eq-false}
+use Rattle.thread.proofs.Filled.{filled-at}
 use Rattle.thread.specs.declared.Line.{Line}
 use Rattle.thread.specs.declared.Model.{Model}
 use Rattle.thread.specs.declared.Instr.{Instr}
@@ -33,7 +34,7 @@ use Rattle.buffer.specs.States.{valOf, pairs, bufferedOf, coreOf, stays,
 use Rattle.chosen.specs.Decide.{following, waitingVars, seenBy, drainedChange, programChange, putChange, decided}
 use Rattle.buffer.specs.Step.{waits, puts, applied, stepped}
 use Rattle.buffer.proofs.Cases.{waits-full, waits-room, puts-pair}
-use Rattle.buffer.proofs.Filled.{filled-taken, filled-at, put-filled, take-filled}
+use Rattle.buffer.proofs.Filled.{filled-taken, put-filled, take-filled}
 
 -- a step of the rules, as the code answers it
 unfoldable pub movedOf : List ℕ → Buffered → Option (In Buffered) → Moved
@@ -55,7 +56,7 @@ module _ (w : List Pair) (few : length w ≤ 16) where
   at-place : (f : Pair → ℕ) → f nothing ≡ 0 → (i : ℕ) → i < length w → filled 16 (map f w) ! i ≡ f (getD w i nothing)
   at-place f e i h =
       let k : i < length (map f w) = rw length-map h in
-      filled-at (map f w) i k ∙ ap (getD (map f w) i) (sym e) ∙ List·getD-map f w i nothing
+      filled-at 16 (map f w) i ∙ ap (getD (map f w) i) (sym e) ∙ List·getD-map f w i nothing
 
   less-place : (f : Pair → ℕ) (i : ℕ) → i < length w → takeOut i 0 (filled 16 (map f w)) ≡ filled 16 (map f (take i w ++ drop (suc i) w))
   less-place f i h =

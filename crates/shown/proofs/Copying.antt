@@ -8,19 +8,9 @@ use native.Mathlib.Decide.{decLt}
 use mathlib.Core.List.{List, _++_, append-nil}
 use lib.ListN.{length, take, drop, set, length-take, length-drop, length-append, length-replicate, getD-replicate, List·getD-append, List·getD-eq-default}
 use lib.Seq.{paste, paste-zero, paste-suc, take-all, getD-take, getD-drop, getD-append-add}
+use Rattle.thread.proofs.Filled.{filled-at}
 use Rattle.thread.specs.Numbers.{_!_, zeros, filled}
 use Rattle.shown.specs.Ran.{cut, partOf}
-
--- zeros behind a list change no number of it
-filled-at : (room : ℕ) (l : List ℕ) (j : ℕ) → j < room → filled room l ! j ≡ l ! j
-unfolding filled
-filled-at room l j h = go (decLt j (length l))
-  where
-    go : Dec (j < length l) → (l ++ zeros (room - length l)) ! j ≡ l ! j
-    go (yes g) = List·getD-append l (zeros (room - length l)) 0 j g
-    go (no g) =
-        let e : length l + (j - length l) ≡ j = omega arith in
-        rw e at (getD-append-add l (zeros (room - length l)) (j - length l) 0) ∙ getD-replicate (room - length l) (j - length l) 0 0 (omega arith) ∙ sym (List·getD-eq-default l 0 (omega arith))
 
 module _ (all : List ℕ) (t : ℕ) where
   part-length : length (partOf all t) ≡ 16
@@ -29,7 +19,7 @@ module _ (all : List ℕ) (t : ℕ) where
 
   part-at : (j : ℕ) → j < 16 → partOf all t ! j ≡ all ! (16 * t + j)
   unfolding partOf
-  part-at j h = filled-at 16 (cut all t) j h ∙ getD-take 16 (drop (16 * t) all) j 0 h ∙ getD-drop (16 * t) all j 0
+  part-at j h = filled-at 16 (cut all t) j ∙ getD-take 16 (drop (16 * t) all) j 0 h ∙ getD-drop (16 * t) all j 0
 
   -- the first j of sixteen places hold the part
   abbrev pub Copied : List ℕ → ℕ → Type 0
