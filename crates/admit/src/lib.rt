@@ -5,6 +5,7 @@ use thread::Line;
 use thread::MOST_LINES;
 use thread::MOST_NUMBERS;
 use thread::MOST_STORES;
+use thread::Model;
 use thread::REGISTERS;
 use thread::Refusal;
 use thread::VARIABLES;
@@ -17,9 +18,16 @@ ghost use lib.Dec.{leb};
 ghost use Rattle.lists.specs.Lists.{any};
 ghost use Rattle.thread.specs.Table.{line, instrAt, fieldsOf};
 ghost use Rattle.checks.specs.Lines.{after, drains as drainsAt, follows, passes, leads, unfenced};
-ghost use Rattle.checks.specs.Checks.{goodFields, goodLine, wrongTarget, goesOn, badField, tooManyStores, badTarget, noNext, unfencedLoop, firstOf, admission};
+ghost use Rattle.checks.specs.Checks.{goodFields, goodLine, wrongTarget, goesOn, badField, tooManyStores, badTarget, noNext, unfencedLoop, firstOf, admission, modelOf};
 ghost use Rattle.admit.specs.Answer.{answer, firstRefused, lineChecks};
 ghost use Rattle.admit.specs.Marks.{noMarks, markAll, ways, lowestOpen, Spread, Lined, Closed, Inside};
+
+// model 0 is TSO; another that is admitted is PSO
+pub fn model_of(model: u32) -> Model
+    ensures { λ r. ⌜ r ≡ modelOf model ⌝ }
+{
+    if model == 0 { Model::Tso } else { Model::Pso }
+}
 
 pub enum Admission {
     Accepted,

@@ -3,6 +3,7 @@ use pending::Found;
 use thread::Instr;
 use thread::Line;
 use thread::Model;
+use thread::number;
 ghost use mathlib.Core.Path.{_≡_};
 ghost use mathlib.Core.Bool.{cond};
 ghost use mathlib.Core.Option.{Option·elim};
@@ -22,13 +23,6 @@ pub enum Change {
     Put(usize),
 }
 
-// the number at a place; 0 past the end
-fn pick(values: &[u32], at: usize) -> u32
-    ensures { λ r. ⌜ r ≡ now (values .entry) ! at ⌝ }
-{
-    if at < values.len() { values[at] } else { 0 }
-}
-
 fn following_line(l: Line) -> Line
     ensures { λ r. ⌜ r ≡ following l ⌝ }
 {
@@ -46,8 +40,8 @@ fn seen(count: u32, memory: &[u32], names: &[u32], values: &[u32], x: u32) -> u3
     ensures { λ r. ⌜ r ≡ Option·elim (lastFor (take count (now (names .entry))) x) (now (memory .entry) ! x) (λ i. now (values .entry) ! i) ⌝ }
 {
     match pending::last_for(names, count as usize, x) {
-        Found::At(i) => pick(values, i),
-        Found::Nothing => pick(memory, x as usize),
+        Found::At(i) => number(values, i),
+        Found::Nothing => number(memory, x as usize),
     }
 }
 
@@ -66,27 +60,32 @@ fn program_change(
     let on = following_line(line);
     match instr {
         Instr::Set(r, v) => Change::Register(on, r, v),
-        Instr::Copy(r, s) => Change::Register(on, r, pick(regs, s as usize)),
+        Instr::Copy(r, s) => Change::Register(on, r, number(regs, s as usize)),
         Instr::Add(r, s, t) => {
-            let sum = thread::add32(pick(regs, s as usize), pick(regs, t as usize));
+            let sum = thread::add32(number(regs, s as usize), number(regs, t as usize));
             Change::Register(on, r, sum)
         }
         Instr::Sub(r, s, t) => {
-            let rest = thread::sub32(pick(regs, s as usize), pick(regs, t as usize));
+            let rest = thread::sub32(number(regs, s as usize), number(regs, t as usize));
             Change::Register(on, r, rest)
         }
         Instr::Load(r, x) => Change::Register(on, r, seen(count, memory, names, values, x)),
-        Instr::StoreR(x, r) => Change::Wait(on, x, pick(regs, r as usize)),
+        Instr::StoreR(x, r) => Change::Wait(on, x, number(regs, r as usize)),
         Instr::StoreC(x, v) => Change::Wait(on, x, v),
         Instr::Fence => if_equal(count, 0, Change::Go(on), Change::Nothing),
         Instr::Cas(r, x, s, t) => {
-            let swap = Change::Swap(on, r, x, pick(regs, t as usize));
-            let here = pick(memory, x as usize);
-            let want = pick(regs, s as usize);
+            let swap = Change::Swap(on, r, x, number(regs, t as usize));
+            let here = number(memory, x as usize);
+            let want = number(regs, s as usize);
             let cas = if_equal(here, want, swap, Change::Register(on, r, 0));
             if_equal(count, 0, cas, Change::Nothing)
         }
-        Instr::Branch(r, to) => if_equal(pick(regs, r as usize), 0, Change::Go(on), Change::Go(to)),
+        Instr::Branch(r, to) => if_equal(
+            number(regs, r as usize),
+            0,
+            Change::Go(on),
+            Change::Go(to),
+        ),
         Instr::Jump(to) => Change::Go(to),
         Instr::Return => Change::Nothing,
     }

@@ -1,5 +1,6 @@
 // The run of buffered threads: its refusals, then the schedule's items, one step each in flat lists: thread t's line and count at place t,
 // its registers, names and values at places 16 t to 16 t + 15.
+use admit::model_of;
 use judge::Judged;
 use runs::Ended;
 use shown::Ran;
@@ -15,7 +16,6 @@ ghost use mathlib.Core.List.{[], _∷_, _++_};
 ghost use Prim.Native.Nat.{_-_, _<_, _≤_};
 ghost use lib.ListN.{getD, take, replicate};
 ghost use Rattle.thread.specs.Table.{instrAt};
-ghost use Rattle.checks.specs.Checks.{modelOf};
 ghost use Rattle.runs.specs.Run.{items, run};
 ghost use Rattle.buffered.specs.RunBuffered.{runBuffered};
 ghost use Rattle.run_buffered.specs.Cores.{startCores, coreStep, ranOfPresent, reached, ranStand};
@@ -23,12 +23,6 @@ ghost use lib.Dec.{ltb};
 ghost use Rattle.shown.specs.Ran.{startOf, nobodyState, world};
 ghost use Rattle.run_buffered.specs.Flat.{flat, threadIn, threadsIn, Sized, TurnIs};
 ghost use Rattle.run_buffered.specs.Ran.{bufferedRan};
-
-fn model_of(model: u32) -> Model
-    ensures { λ r. ⌜ r ≡ modelOf model ⌝ }
-{
-    if model == 0 { Model::Tso } else { Model::Pso }
-}
 
 // the instruction at a line of thread `t`
 fn instr_in(t0: &[u32], t1: &[u32], t2: &[u32], t3: &[u32], t: u32, line: Line) -> Instr

@@ -13,26 +13,26 @@ enum-known-instr c = search needs
 enum-known-instr-2 : tie.Need-enum-known-instr-2
 enum-known-instr-2 c = search needs
 
-cast-pick : tie.Need-cast-pick
-cast-pick c = search needs
+cast-number : tie.Need-cast-number
+cast-number c = search needs
 
-pick-requires : tie.Need-pick-requires
-pick-requires c κs = search needs
+number-requires : tie.Need-number-requires
+number-requires c κs = search needs
 
 enum-known-instr-3 : tie.Need-enum-known-instr-3
 enum-known-instr-3 c = search needs
 
-cast-pick-2 : tie.Need-cast-pick-2
-cast-pick-2 c = search needs
+cast-number-2 : tie.Need-cast-number-2
+cast-number-2 c = search needs
 
-pick-requires-2 : tie.Need-pick-requires-2
-pick-requires-2 c κs = search needs
+number-requires-2 : tie.Need-number-requires-2
+number-requires-2 c κs = search needs
 
-cast-pick-3 : tie.Need-cast-pick-3
-cast-pick-3 c = search needs
+cast-number-3 : tie.Need-cast-number-3
+cast-number-3 c = search needs
 
-pick-requires-3 : tie.Need-pick-requires-3
-pick-requires-3 c κs = search needs
+number-requires-3 : tie.Need-number-requires-3
+number-requires-3 c κs = search needs
 
 add32-requires : tie.Need-add32-requires
 add32-requires c κs = search needs
@@ -40,17 +40,17 @@ add32-requires c κs = search needs
 enum-known-instr-4 : tie.Need-enum-known-instr-4
 enum-known-instr-4 c = search needs
 
-cast-pick-4 : tie.Need-cast-pick-4
-cast-pick-4 c = search needs
+cast-number-4 : tie.Need-cast-number-4
+cast-number-4 c = search needs
 
-pick-requires-4 : tie.Need-pick-requires-4
-pick-requires-4 c κs = search needs
+number-requires-4 : tie.Need-number-requires-4
+number-requires-4 c κs = search needs
 
-cast-pick-5 : tie.Need-cast-pick-5
-cast-pick-5 c = search needs
+cast-number-5 : tie.Need-cast-number-5
+cast-number-5 c = search needs
 
-pick-requires-5 : tie.Need-pick-requires-5
-pick-requires-5 c κs = search needs
+number-requires-5 : tie.Need-number-requires-5
+number-requires-5 c κs = search needs
 
 sub32-requires : tie.Need-sub32-requires
 sub32-requires c κs = search needs
@@ -64,11 +64,11 @@ seen-requires c κs = search needs
 enum-known-instr-6 : tie.Need-enum-known-instr-6
 enum-known-instr-6 c = search needs
 
-cast-pick-6 : tie.Need-cast-pick-6
-cast-pick-6 c = search needs
+cast-number-6 : tie.Need-cast-number-6
+cast-number-6 c = search needs
 
-pick-requires-6 : tie.Need-pick-requires-6
-pick-requires-6 c κs = search needs
+number-requires-6 : tie.Need-number-requires-6
+number-requires-6 c κs = search needs
 
 enum-known-instr-7 : tie.Need-enum-known-instr-7
 enum-known-instr-7 c = search needs
@@ -82,23 +82,23 @@ if-equal-requires c κs = search needs
 enum-known-instr-8 : tie.Need-enum-known-instr-8
 enum-known-instr-8 c = search needs
 
-cast-pick-7 : tie.Need-cast-pick-7
-cast-pick-7 c = search needs
+cast-number-7 : tie.Need-cast-number-7
+cast-number-7 c = search needs
 
-pick-requires-7 : tie.Need-pick-requires-7
-pick-requires-7 c κs = search needs
+number-requires-7 : tie.Need-number-requires-7
+number-requires-7 c κs = search needs
 
-cast-pick-8 : tie.Need-cast-pick-8
-cast-pick-8 c = search needs
+cast-number-8 : tie.Need-cast-number-8
+cast-number-8 c = search needs
 
-pick-requires-8 : tie.Need-pick-requires-8
-pick-requires-8 c κs = search needs
+number-requires-8 : tie.Need-number-requires-8
+number-requires-8 c κs = search needs
 
-cast-pick-9 : tie.Need-cast-pick-9
-cast-pick-9 c = search needs
+cast-number-9 : tie.Need-cast-number-9
+cast-number-9 c = search needs
 
-pick-requires-9 : tie.Need-pick-requires-9
-pick-requires-9 c κs = search needs
+number-requires-9 : tie.Need-number-requires-9
+number-requires-9 c κs = search needs
 
 if-equal-requires-2 : tie.Need-if-equal-requires-2
 if-equal-requires-2 c κs = search needs
@@ -109,11 +109,11 @@ if-equal-requires-3 c κs = search needs
 enum-known-instr-9 : tie.Need-enum-known-instr-9
 enum-known-instr-9 c = search needs
 
-cast-pick-10 : tie.Need-cast-pick-10
-cast-pick-10 c = search needs
+cast-number-10 : tie.Need-cast-number-10
+cast-number-10 c = search needs
 
-pick-requires-10 : tie.Need-pick-requires-10
-pick-requires-10 c κs = search needs
+number-requires-10 : tie.Need-number-requires-10
+number-requires-10 c κs = search needs
 
 if-equal-requires-4 : tie.Need-if-equal-requires-4
 if-equal-requires-4 c κs = search needs
@@ -179,40 +179,40 @@ program-change-spec =
     following-line-requires
     enum-known-instr
     enum-known-instr-2
-    cast-pick
-    pick-requires
+    cast-number
+    number-requires
     enum-known-instr-3
-    cast-pick-2
-    pick-requires-2
-    cast-pick-3
-    pick-requires-3
+    cast-number-2
+    number-requires-2
+    cast-number-3
+    number-requires-3
     add32-requires
     enum-known-instr-4
-    cast-pick-4
-    pick-requires-4
-    cast-pick-5
-    pick-requires-5
+    cast-number-4
+    number-requires-4
+    cast-number-5
+    number-requires-5
     sub32-requires
     enum-known-instr-5
     seen-requires
     enum-known-instr-6
-    cast-pick-6
-    pick-requires-6
+    cast-number-6
+    number-requires-6
     enum-known-instr-7
     enum-told
     if-equal-requires
     enum-known-instr-8
-    cast-pick-7
-    pick-requires-7
-    cast-pick-8
-    pick-requires-8
-    cast-pick-9
-    pick-requires-9
+    cast-number-7
+    number-requires-7
+    cast-number-8
+    number-requires-8
+    cast-number-9
+    number-requires-9
     if-equal-requires-2
     if-equal-requires-3
     enum-known-instr-9
-    cast-pick-10
-    pick-requires-10
+    cast-number-10
+    number-requires-10
     if-equal-requires-4
     enum-known-instr-10
     enum-told-2

@@ -14,26 +14,26 @@ last-for-requires c κs = search needs
 enum-known-i : tie.Need-enum-known-i
 enum-known-i c = search needs
 
-pick-requires : tie.Need-pick-requires
-pick-requires c κs = search needs
+number-requires : tie.Need-number-requires
+number-requires c κs = search needs
 
 enum-told : tie.Need-enum-told
 enum-told c = search needs
 
-pick-requires-2 : tie.Need-pick-requires-2
-pick-requires-2 c κs = search needs
+number-requires-2 : tie.Need-number-requires-2
+number-requires-2 c κs = search needs
 
 returns : tie.Need-returns
 returns c =
     let h = c .before .before .before .before in
     let a = h .before .before .before .before .args in
-    c .pick .ensures ∙ sym (found-elim (a .memory .now ! a .x) (λ i. a .values .now ! i) (lastFor (take (a .count) (a .names .now)) (a .x)) (h .last-for .result) (h .last-for .ensures) _ (c .before .before .i .given .1))
+    c .number .ensures ∙ sym (found-elim (a .memory .now ! a .x) (λ i. a .values .now ! i) (lastFor (take (a .count) (a .names .now)) (a .x)) (h .last-for .result) (h .last-for .ensures) _ (c .before .before .i .given .1))
 
 returns-2 : tie.Need-returns-2
 returns-2 c =
     let h = c .before .before .before in
     let a = h .before .before .before .before .args in
-    c .pick2 .ensures ∙ sym (missing-elim (a .memory .now ! a .x) (λ i. a .values .now ! i) (lastFor (take (a .count) (a .names .now)) (a .x)) (h .last-for .result) (h .last-for .ensures) (c .before .enum-told .given .1))
+    c .number2 .ensures ∙ sym (missing-elim (a .memory .now ! a .x) (λ i. a .values .now ! i) (lastFor (take (a .count) (a .names .now)) (a .x)) (h .last-for .result) (h .last-for .ensures) (c .before .enum-told .given .1))
 
 pub seen-spec : {M : Type 1} → statement M
 seen-spec =
@@ -41,8 +41,8 @@ seen-spec =
     (tie.spec
     last-for-requires
     enum-known-i
-    pick-requires
+    number-requires
     enum-told
-    pick-requires-2
+    number-requires-2
     returns
     returns-2)

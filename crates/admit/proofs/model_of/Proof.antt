@@ -1,8 +1,8 @@
 -- `model_of` reads the model.
 use borrow.Author.Tests.{eq-eqb, ne-eqb}
 use Rattle.checks.specs.Checks.{modelOf}
-use Rattle.run_buffered.proofs.model_of.Statement.{statement}
-use Rattle.run_buffered.proofs.model_of.Tie as tie
+use Rattle.admit.proofs.model_of.Statement.{statement}
+use Rattle.admit.proofs.model_of.Tie as tie
 
 returns : tie.Need-returns
 unfolding modelOf
