@@ -27,7 +27,7 @@ use Rattle.graphs.proofs.Pending.{few}
 use Rattle.runs.specs.Run.{In, World, run, Item}
 use Rattle.runs.proofs.Worlds.{within, Each, viewWorld, same-runs}
 use Rattle.buffered.specs.Machine.{Buffered, bufferedStep, Comes, comes-start, comes-step, fitting, placedStep}
-use Rattle.agree.proofs.Middle.{Middle, pairOf, shows, arrive, followArc, test, middleStep}
+use Rattle.agree.proofs.Middle.{Middle, pairOf, shows, arrive, followArc, test, middleStep, stepAlong}
 use Rattle.agree.proofs.Same.{Fresh, same-step}
 use Rattle.agree.proofs.Numbers.{act-length}
 
@@ -53,7 +53,7 @@ module _ (m : ℕ) (t : List ℕ) (free : admission m t ≡ none) (model : Model
   Keeps a r = Good prog (r .own .standing) × (length (r .own .auxiliaries) ≡ length (a .auxiliaries))
 
   middle-keeps : (c : ℕ) (s : In Middle) → Good prog (s .own .standing) → Holds (Keeps (s .own)) (middleStep model prog c s)
-  unfolding middleStep followArc arrive
+  unfolding stepAlong edgesOf followArc arrive
   middle-keeps c s g =
       let es = edgesOf model prog (s .own .standing) in
       let o = first (test c (s .own .registers)) es in

@@ -8,7 +8,7 @@ use lib.ListN.{length, getD, set}
 use lib.Seq.{getD-set-same, getD-set-other}
 use lib.Dec.{T, eqb, eqb·zero-suc, eqb·suc-zero, eqb·suc-suc}
 use Rattle.lists.specs.Lists.{All, first}
-use Rattle.lists.proofs.Lists.{all-of, first-map}
+use Rattle.lists.proofs.Lists.{all-of, first-map, first-ext}
 use Rattle.lists.proofs.Tests.{cond-ap}
 use Rattle.explore.specs.Explore.{Arc}
 use Rattle.thread.specs.declared.Line.{Line}
@@ -25,7 +25,7 @@ use Rattle.waiting.proofs.Mapped.{map-addWait, map-newest, mapReady, map-readyF
 use Rattle.waiting.proofs.Queues.{first-ready}
 use Rattle.runs.specs.Run.{In}
 use Rattle.runs.proofs.Worlds.{within}
-use Rattle.graphs.specs.Graph.{Standing, loadOp, edge, programEdges, putEdge, edgesOf}
+use Rattle.graphs.specs.Graph.{Standing, NodeEdges, loadOp, edge, programEdges, putEdge, edgesOf}
 use Rattle.buffered.specs.Machine.{Pair, varOf, Buffered, programStep, putPair, bufferedStep}
 use Rattle.generated.specs.Machine.{waitingValue, choiceOf, testHolds, serves, Values, act}
 
@@ -44,9 +44,13 @@ followArc s a = arrive (a .target) (act (a .label) (s .memory) (s .own .register
 abbrev pub test : ℕ → List ℕ → Arc Standing Op → Bool
 test c R a = serves c R (a .label)
 
-unfoldable pub middleStep : Model → Prog → ℕ → In Middle → Option (In Middle)
-unfolding first serves followArc edgesOf
-middleStep m prog c s = Option·map (followArc s) (first (test c (s .own .registers)) (edgesOf m prog (s .own .standing)))
+-- a step along the first of a node's edges that serves the choice, for any edges
+unfoldable pub stepAlong : NodeEdges → ℕ → In Middle → Option (In Middle)
+unfolding first serves followArc
+stepAlong succ c s = Option·map (followArc s) (first (test c (s .own .registers)) (succ (s .own .standing)))
+
+abbrev pub middleStep : Model → Prog → ℕ → In Middle → Option (In Middle)
+middleStep m prog = stepAlong (edgesOf m prog)
 
 -- what the store line l shows
 unfoldable pub pairOf : Prog → List ℕ → Line → Pair
@@ -71,10 +75,10 @@ unfolding choiceOf loadOp
 load-choice r x none = refl
 load-choice r x (some l) = refl
 
-abbrev Program : Arc Standing Op → Type 0
+abbrev pub Program : Arc Standing Op → Type 0
 Program a = choiceOf (a .label) ≡ 0
 
-program-choice : (m : Model) (prog : Prog) (l : Line) (w : List Line) (i : Instr) → All Program (programEdges m prog l w i)
+pub program-choice : (m : Model) (prog : Prog) (l : Line) (w : List Line) (i : Instr) → All Program (programEdges m prog l w i)
 unfolding programEdges choiceOf
 program-choice m prog l w (I.Set r v) = (refl, tt)
 program-choice m prog l w (I.Copy r s) = (refl, tt)
@@ -92,7 +96,7 @@ program-choice m prog l w (I.Jump to) = (refl, tt)
 program-choice m prog l w I.Return = tt
 
 -- no program edge serves a put
-skip : (x : ℕ) (R : List ℕ) (es ps : List (Arc Standing Op)) → All Program es → first (test (suc x) R) (es ++ ps) ≡ first (test (suc x) R) ps
+pub skip : (x : ℕ) (R : List ℕ) (es ps : List (Arc Standing Op)) → All Program es → first (test (suc x) R) (es ++ ps) ≡ first (test (suc x) R) ps
 unfolding first
 skip x R [] ps h = refl
 skip x R (e ∷ es) ps h = rw (not-put (e .label) R x (h .0), skip x R es ps (h .1))
@@ -103,18 +107,13 @@ unfolding first serves choiceOf putEdge
 no-put prog l R [] = refl
 no-put prog l R (q ∷ qs) = rw (eqb·suc-zero, no-put prog l R qs)
 
-put-test : (prog : Prog) (l : Line) (R : List ℕ) (x : ℕ) (q : Ready Line) → test (suc x) R (putEdge prog l q) ≡ eqb (varAt prog (q .store)) x
+pub put-test : (prog : Prog) (l : Line) (R : List ℕ) (x : ℕ) (q : Ready Line) → test (suc x) R (putEdge prog l q) ≡ eqb (varAt prog (q .store)) x
 unfolding serves choiceOf testHolds putEdge
 put-test prog l R x q = rw eqb·suc-suc (and-true (eqb (varAt prog (q .store)) x))
   where
     and-true : (b : Bool) → b && true ≡ b
     and-true true = refl
     and-true false = refl
-
-first-ext : {A : Type 0} (p q : A → Bool) (l : List A) → ((a : A) → p a ≡ q a) → first p l ≡ first q l
-unfolding first
-first-ext p q [] h = refl
-first-ext p q (a ∷ l) h = rw (h a, first-ext p q l h)
 
 module _ (m : Model) (prog : Prog) (vars : (l : Line) → varAt prog l < variables) where
   put-edge : (x : ℕ) (l : Line) (w : List Line) (R : List ℕ) → first (test (suc x) R) (map (putEdge prog l) (ready (varAt prog) m w)) ≡ Option·map (putEdge prog l) (readyFor (varAt prog) m x w)
@@ -131,7 +130,7 @@ module _ (m : Model) (prog : Prog) (vars : (l : Line) → varAt prog l < variabl
 
   -- a store reaches memory on both sides, or on neither
   pub same-put : (x : ℕ) (s : In Middle) → Option·map (within (shows prog)) (middleStep m prog (suc x) s) ≡ bufferedStep m prog (suc x) (within (shows prog) s)
-  unfolding bufferedStep shows middleStep edgesOf
+  unfolding bufferedStep shows stepAlong edgesOf
   same-put x s =
       let l = s .own .standing .line in
       let w = s .own .standing .waiting in

@@ -9,45 +9,34 @@ use mathlib.Core.List.{List, [], _∷_, _++_, map, map-append, List·Memᴰ, Lis
 use lib.ListN.{length, getD, length-set}
 use lib.Dec.{T, eqb}
 use Rattle.lists.specs.Lists.{All, first}
-use Rattle.lists.proofs.Lists.{Holds, holds-map, holds-imp, all-of, all-first, first-map, first-append, mem-getD}
+use Rattle.lists.proofs.Lists.{Holds, holds-map, holds-imp, all-of, all-first, first-map, first-append, first-left, mem-getD}
 use Rattle.lists.proofs.Tests.{eq-true, eq-false, by-cond}
 use Rattle.explore.specs.Explore.{Arc, Link, Graph, Right, indexOf, arcEdge, edgesFrom, reach-step}
 use Rattle.thread.specs.declared.Line.{Line}
 use Rattle.thread.specs.declared.Node.{Node}
-use Rattle.thread.specs.declared.Model.{Model}
 use Rattle.thread.specs.declared.Op.{Op}
 use Rattle.thread.specs.declared.Op.the-variants as O
 use Rattle.thread.specs.Numbers.{_!_}
-use Rattle.thread.specs.Table.{Prog}
 use Rattle.runs.specs.Run.{In}
-use Rattle.graphs.specs.Graph.{Standing, begin, edgesOf, graphSystem}
+use Rattle.graphs.specs.Graph.{Standing, NodeEdges, begin, systemOf}
 use Rattle.graphs.specs.declared.Edge.{Edge}
 use Rattle.graphs.specs.Records.{node, numbered, edgesIn}
 use Rattle.generated.specs.declared.Generated.{Generated}
 use Rattle.generated.specs.Machine.{serves, Values, values, act, follow, sameNode, edgeFor, generatedStep}
-use Rattle.agree.proofs.Middle.{Middle, arrive, followArc, test, middleStep}
+use Rattle.agree.proofs.Middle.{Middle, arrive, followArc, test, stepAlong}
 
-map-map : {A B C : Type 0} (g : B → C) (f : A → B) (o : Option A) → Option·map (λ a. g (f a)) o ≡ Option·map g (Option·map f o)
-map-map g f none = refl
-map-map g f (some a) = refl
-
-first-left : {A : Type 0} (p : A → Bool) (l k : List A) → first p k ≡ none → first p (l ++ k) ≡ first p l
-unfolding first
-first-left p [] k e = e
-first-left p (a ∷ l) k e = rw (first-left p l k e)
-
-module _ (m : Model) (prog : Prog) (cap : ℕ) (ns : List Standing) where
+module _ (succ : NodeEdges) (cap : ℕ) (ns : List Standing) where
   abbrev pub name : Node → Standing
   name n = getD ns (n .0) begin
 
   abbrev numberedArc : ℕ → Arc Standing Op → Edge
-  numberedArc i a = numbered (arcEdge (graphSystem m prog cap) ns i a)
+  numberedArc i a = numbered (arcEdge (systemOf succ cap) ns i a)
 
   module _ (c : ℕ) (R : List ℕ) (k : ℕ) where
     abbrev leaves : Edge → Bool
     leaves e = sameNode (e .from) (node k) && serves c R (e .op)
 
-    own-block : (ss : List (Arc Standing Op)) → first leaves (map numbered (map (arcEdge (graphSystem m prog cap) ns k) ss)) ≡ Option·map (numberedArc k) (first (test c R) ss)
+    own-block : (ss : List (Arc Standing Op)) → first leaves (map numbered (map (arcEdge (systemOf succ cap) ns k) ss)) ≡ Option·map (numberedArc k) (first (test c R) ss)
     unfolding first
     own-block [] = refl
     own-block (s ∷ ss) = rw (eq-true k, own-block ss) (go (serves c R (s .label)))
@@ -56,37 +45,37 @@ module _ (m : Model) (prog : Prog) (cap : ℕ) (ns : List Standing) where
         go true = refl
         go false = refl
 
-    other-block : (i : ℕ) → i ≢ k → (ss : List (Arc Standing Op)) → first leaves (map numbered (map (arcEdge (graphSystem m prog cap) ns i) ss)) ≡ none
+    other-block : (i : ℕ) → i ≢ k → (ss : List (Arc Standing Op)) → first leaves (map numbered (map (arcEdge (systemOf succ cap) ns i) ss)) ≡ none
     unfolding first
     other-block i n [] = refl
     other-block i n (s ∷ ss) = rw (eq-false i k n, other-block i n ss)
 
     abbrev block : ℕ → Standing → List Edge
-    block i x = map numbered (map (arcEdge (graphSystem m prog cap) ns i) (edgesOf m prog x))
+    block i x = map numbered (map (arcEdge (systemOf succ cap) ns i) (succ x))
 
     abbrev rest : ℕ → List Standing → List Edge
-    rest i xs = map numbered (edgesFrom (graphSystem m prog cap) ns i xs)
+    rest i xs = map numbered (edgesFrom (systemOf succ cap) ns i xs)
 
     split : (i : ℕ) (x : Standing) (xs : List Standing) → rest i (x ∷ xs) ≡ block i x ++ rest (suc i) xs
-    split i x xs = map-append numbered (map (arcEdge (graphSystem m prog cap) ns i) (edgesOf m prog x)) (edgesFrom (graphSystem m prog cap) ns (suc i) xs)
+    split i x xs = map-append numbered (map (arcEdge (systemOf succ cap) ns i) (succ x)) (edgesFrom (systemOf succ cap) ns (suc i) xs)
 
     later : (i : ℕ) (xs : List Standing) → k < i → first leaves (rest i xs) ≡ none
     unfolding first
     later i [] lt = refl
-    later i (x ∷ xs) lt = ap (first leaves) (split i x xs) ∙ first-append leaves (block i x) (rest (suc i) xs) (other-block i (omega arith) (edgesOf m prog x)) ∙ later (suc i) xs (omega arith)
+    later i (x ∷ xs) lt = ap (first leaves) (split i x xs) ∙ first-append leaves (block i x) (rest (suc i) xs) (other-block i (omega arith) (succ x)) ∙ later (suc i) xs (omega arith)
 
     -- the first record that leaves node k and serves the choice is that of the first of its edges
-    pub found : (i j : ℕ) (xs : List Standing) → k ≡ i + j → j < length xs → first leaves (rest i xs) ≡ Option·map (numberedArc k) (first (test c R) (edgesOf m prog (getD xs j begin)))
+    pub found : (i j : ℕ) (xs : List Standing) → k ≡ i + j → j < length xs → first leaves (rest i xs) ≡ Option·map (numberedArc k) (first (test c R) (succ (getD xs j begin)))
     found i j [] e lt = absurd (omega arith)
     found i zero (x ∷ xs) e lt =
         let p : k ≡ i = omega arith in
-        ap (first leaves) (split i x xs) ∙ first-left leaves (block i x) (rest (suc i) xs) (later (suc i) xs (omega arith)) ∙ rw (← p) (own-block (edgesOf m prog x))
+        ap (first leaves) (split i x xs) ∙ first-left leaves (block i x) (rest (suc i) xs) (later (suc i) xs (omega arith)) ∙ rw (← p) (own-block (succ x))
     found i (suc j) (x ∷ xs) e lt =
-        ap (first leaves) (split i x xs) ∙ first-append leaves (block i x) (rest (suc i) xs) (other-block i (omega arith) (edgesOf m prog x)) ∙ found (suc i) j xs (omega arith) (omega arith)
+        ap (first leaves) (split i x xs) ∙ first-append leaves (block i x) (rest (suc i) xs) (other-block i (omega arith) (succ x)) ∙ found (suc i) j xs (omega arith) (omega arith)
 
 -- a thread's graph, and the edge table that holds its records
-pub record Linked (m : Model) (prog : Prog) (cap : ℕ) (g : Graph Standing Op) (table : List ℕ) : Type 0 where
-  pub right : Right (graphSystem m prog cap) g
+pub record Linked (succ : NodeEdges) (cap : ℕ) (g : Graph Standing Op) (table : List ℕ) : Type 0 where
+  pub right : Right (systemOf succ cap) g
   pub reads : edgesIn table ≡ map numbered (g .edges)
 
 -- the generated thread with its node by name
@@ -117,21 +106,21 @@ act-length (O.Put x l) M R A = refl
 abbrev pub nameState : List Standing → In Generated → In Middle
 nameState ns s = record { memory = s .memory; own = named ns (s .own) }
 
-module _ (m : Model) (prog : Prog) (cap : ℕ) (g : Graph Standing Op) (table : List ℕ) (ok : Linked m prog cap g table) where
+module _ (succ : NodeEdges) (cap : ℕ) (g : Graph Standing Op) (table : List ℕ) (ok : Linked succ cap g table) where
   abbrev arcs : ℕ → List (Arc Standing Op)
-  arcs k = edgesOf m prog (getD (g .nodes) k begin)
+  arcs k = succ (getD (g .nodes) k begin)
 
   abbrev toEdge : ℕ → Arc Standing Op → Edge
-  toEdge k a = numberedArc m prog cap (g .nodes) k a
+  toEdge k a = numberedArc succ cap (g .nodes) k a
 
   -- the table's edge for a choice is that of the node's edges
   edge-for : (k c : ℕ) (R : List ℕ) → k < length (g .nodes) → edgeFor (edgesIn table) (node k) c R ≡ Option·map (toEdge k) (first (test c R) (arcs k))
   unfolding edgeFor
-  edge-for k c R lt = rw (ok .reads, ok .right .edges) (found m prog cap (g .nodes) c R k 0 k (g .nodes) (omega arith) lt)
+  edge-for k c R lt = rw (ok .reads, ok .right .edges) (found succ cap (g .nodes) c R k 0 k (g .nodes) (omega arith) lt)
 
   -- an arc out of a known node leads to a known node
   Leads : Arc Standing Op → Type 0
-  Leads a = (indexOf (graphSystem m prog cap) (g .nodes) (a .target) < length (g .nodes)) × (getD (g .nodes) (indexOf (graphSystem m prog cap) (g .nodes) (a .target)) begin ≡ a .target)
+  Leads a = (indexOf (systemOf succ cap) (g .nodes) (a .target) < length (g .nodes)) × (getD (g .nodes) (indexOf (systemOf succ cap) (g .nodes) (a .target)) begin ≡ a .target)
 
   all-lead : (k : ℕ) → k < length (g .nodes) → All Leads (arcs k)
   unfolding Leads
@@ -144,8 +133,8 @@ module _ (m : Model) (prog : Prog) (cap : ℕ) (g : Graph Standing Op) (table : 
   follow-named s k (some a) h = rw (h .1)
 
   -- the step along the records is the step along the edges
-  pub same-named : (c : ℕ) (s : In Generated) → s .own .node .0 < length (g .nodes) → Option·map (nameState (g .nodes)) (generatedStep table c s) ≡ middleStep m prog c (nameState (g .nodes) s)
-  unfolding generatedStep middleStep named
+  pub same-named : (c : ℕ) (s : In Generated) → s .own .node .0 < length (g .nodes) → Option·map (nameState (g .nodes)) (generatedStep table c s) ≡ stepAlong succ c (nameState (g .nodes) s)
+  unfolding generatedStep stepAlong named
   same-named c s lt =
       let k = s .own .node .0 in
       let R = s .own .registers in

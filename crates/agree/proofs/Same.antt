@@ -26,7 +26,7 @@ use Rattle.runs.proofs.Worlds.{within}
 use Rattle.graphs.specs.Graph.{Standing, programEdges, putEdge, edgesOf}
 use Rattle.buffered.specs.Machine.{Pair, varOf, Buffered, programStep, bufferedStep}
 use Rattle.generated.specs.Machine.{waitingValue, serves, Values}
-use Rattle.agree.proofs.Middle.{Middle, arrive, followArc, test, middleStep, pairOf, shows, no-put, same-put}
+use Rattle.agree.proofs.Middle.{Middle, arrive, followArc, test, middleStep, stepAlong, pairOf, shows, no-put, same-put}
 
 -- an auxiliary that is written shows in no line that waits
 kept : (prog : Prog) (A : List ℕ) (l : Line) (v : ℕ) (w : List Line) → (List·Memᴰ l w → ⊥) → map (pairOf prog (set A (l .0) v)) w ≡ map (pairOf prog A) w
@@ -94,7 +94,7 @@ pub record Fresh (prog : Prog) (s : In Middle) : Type 0 where
 
 pub same-step : (m : Model) (prog : Prog) → ((l : Line) → varAt prog l < variables) → (c : ℕ) (s : In Middle) → Fresh prog s
     → Option·map (within (shows prog)) (middleStep m prog c s) ≡ bufferedStep m prog c (within (shows prog) s)
-unfolding middleStep edgesOf bufferedStep shows byEdges direct
+unfolding stepAlong edgesOf bufferedStep shows byEdges direct
 same-step m prog vars zero s f =
     let n = s .own .standing in
     same-program m prog (s .memory) (n .line) (s .own .registers) (s .own .auxiliaries) (ready (varAt prog) m (n .waiting)) (n .waiting) (prog (n .line)) refl (f .inside) (f .new)

@@ -8,19 +8,15 @@ use mathlib.Core.List.{List, [], _∷_, _++_, map}
 use lib.ListN.{length, getD, take, replicate, length-replicate}
 use Rattle.lists.specs.Lists.{each, listed, collect}
 use Rattle.explore.specs.Explore.{Right}
-use Rattle.thread.specs.declared.Refusal.{Refusal}
 use Rattle.thread.specs.Sizes.{mostLines, mostThreads}
 use Rattle.thread.specs.Numbers.{zeros}
 use Rattle.thread.specs.Table.{line, Prog, instrAt}
-use Rattle.thread.specs.Refusal.{numberOf}
-use Rattle.thread.proofs.Refusals.{not-success}
 use Rattle.checks.specs.Checks.{admission, modelOf}
-use Rattle.graphs.specs.Graph.{Standing, begin}
-use Rattle.graphs.specs.Build.{refusal, refused, build, buildAnswer, accepted}
+use Rattle.graphs.specs.Graph.{Standing, begin, edgesOf}
+use Rattle.graphs.specs.Build.{refusal, build, buildAnswer}
 use Rattle.graphs.specs.Records.{node, nodeAt}
 use Rattle.graphs.proofs.Given.{Accepted, accepted-when}
-use Rattle.graphs.proofs.Tables.{fit, when-refused, when-accepted}
-use Rattle.graphs.proofs.TheGraph.{read-back}
+use Rattle.graphs.proofs.Tables.{number-by, reads}
 use Rattle.runs.specs.declared.Ended.{Ended}
 use Rattle.runs.specs.Run.{In, World, Stand, items, run, threadsRefused, endOf, runAnswer}
 use Rattle.runs.specs.Start.{Start, tableOf, registersOf, startWorld}
@@ -41,17 +37,11 @@ use Rattle.agree.proofs.Refusals.{none-bad}
 
 -- an answer with number 0 is no refusal
 pub number-none : (m : ℕ) (t : List ℕ) (nodes edges : ℕ) → buildAnswer (build m t nodes edges .answer) .number ≡ 0 → refusal m t nodes edges ≡ none
-unfolding buildAnswer refused
-number-none m t nodes edges e = go (refusal m t nodes edges) refl
-  where
-    go : (o : Option Refusal) → refusal m t nodes edges ≡ o → refusal m t nodes edges ≡ none
-    go none f = f
-    go (some r) f =
-        let n : numberOf r ≡ 0 = rw (when-refused m t nodes edges r f) at e in
-        absurd (omega (arith, not-success r))
+unfolding build
+number-none m t = number-by (edgesOf (modelOf m) (instrAt t)) m t
 
 -- Lists of the present threads.
-each-collect : {T U : Type 0} (f : ℕ → T → U) (a : ℕ → T) (b : ℕ → U) (k n : ℕ) → ((i : ℕ) → i < n → f i (a (k + i)) ≡ b (k + i))
+pub each-collect : {T U : Type 0} (f : ℕ → T → U) (a : ℕ → T) (b : ℕ → U) (k n : ℕ) → ((i : ℕ) → i < n → f i (a (k + i)) ≡ b (k + i))
     → each f (collect (λ t. some (a t)) k n) ≡ collect (λ t. some (b t)) k n
 unfolding each collect listed
 each-collect f a b k zero h = refl
@@ -146,7 +136,7 @@ module _ (s : Start) (rooms : Rooms) (free : (t : ℕ) → t < s .count → thre
       let ns : nodesOf m tab nr er ≡ ac .graph .nodes = nodes-are m tab nr er ac in
       let lt : a .node .0 < length (ac .graph .nodes) = subst (λ (l : List Standing). a .node .0 < length l) ns (g .known) in
       let n : Standing = getD (ac .graph .nodes) (a .node .0) begin in
-      let p : nodeAt (build m tab nr er .nodes) (a .node) ≡ n = rw (when-accepted m tab nr er ac (g .free)) (read-back nr er (ac .graph) (fit m tab nr er ac) .nodes (a .node .0) lt) in
+      let p : nodeAt (build m tab nr er .nodes) (a .node) ≡ n = reads m tab nr er ac (g .free) .nodes (a .node .0) lt in
       same-standing (instrAt tab) (nodesOf m tab nr er) (build m tab nr er .nodes) a (p ∙ ap (λ (l : List Standing). getD l (a .node .0) begin) (sym ns))
 
   -- the two results, where no thread is refused

@@ -1,2 +1,5 @@
-pub mod Worlds
 pub mod Laws
+pub mod Simulated
+pub mod Worlds
+pub mod Schedules
+pub mod Cases
