@@ -1,31 +1,29 @@
 -- Law L8: in a thread free of 2 to 10 the buffered rule never holds more than 16 pairs, whether or not its graph fits any room. So a buffer with 16 places never differs from it.
-use mathlib.Core.Path.{_≡_, refl, ap, _∙_, sym, subst}
-use mathlib.Core.Bool.{cond}
+use mathlib.Core.Path.{_≡_, refl, ap, _∙_, sym}
 use mathlib.Core.Option.{Option, none, some, Option·map}
-use Prim.Native.Nat.{ℕ, suc, _≤_, _<_}
+use Prim.Native.Nat.{ℕ, _≤_}
 use native.Mathlib.Omega.{arith}
-use mathlib.Core.List.{List, [], _∷_, map}
+use mathlib.Core.List.{List, []}
 use lib.ListN.{length, length-map, length-replicate}
-use lib.Dec.{leb}
-use Rattle.lists.specs.Lists.{All, each, first}
-use Rattle.lists.proofs.Lists.{Holds, holds-map, holds-imp, holds-at, all-first, not-some}
+use Rattle.lists.specs.Lists.{first}
+use Rattle.lists.proofs.Lists.{Holds, holds-map, holds-imp, holds-at, all-first}
 use Rattle.lists.proofs.Tests.{le-true}
 use Rattle.explore.specs.Explore.{Arc}
 use Rattle.thread.specs.declared.Model.{Model}
 use Rattle.thread.specs.declared.Op.{Op}
 use Rattle.thread.specs.Sizes.{mostLines, mostWaiting}
 use Rattle.thread.specs.Numbers.{zeros}
-use Rattle.thread.specs.Table.{line, Prog, instrAt, linesOf, varAt}
+use Rattle.thread.specs.Table.{line, Prog, instrAt, linesOf}
 use Rattle.checks.specs.Lines.{follows}
-use Rattle.checks.specs.Checks.{admission, modelOf}
+use Rattle.checks.specs.Checks.{admission}
 use Rattle.checks.proofs.Instructions.{good-var}
 use Rattle.checks.proofs.Loops.{leads-inside}
 use Rattle.checks.proofs.Given.{Admitted, admitted}
 use Rattle.graphs.specs.Graph.{Standing, begin, edgesOf}
 use Rattle.graphs.proofs.Waits.{Good, good-start, good-edges, fresh}
 use Rattle.graphs.proofs.Pending.{few}
-use Rattle.runs.specs.Run.{In, World, run, Item}
-use Rattle.runs.proofs.Worlds.{within, Each, viewWorld, same-runs}
+use Rattle.runs.specs.Run.{In}
+use Rattle.runs.proofs.Worlds.{within}
 use Rattle.buffered.specs.Machine.{Buffered, bufferedStep, Comes, comes-start, comes-step, fitting, placedStep}
 use Rattle.agree.proofs.Middle.{Middle, pairOf, shows, arrive, followArc, test, middleStep, stepAlong}
 use Rattle.agree.proofs.Same.{Fresh, same-step}

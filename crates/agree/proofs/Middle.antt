@@ -1,15 +1,12 @@
 -- Between the two runs: a thread that steps along the edges of the graph before any numbering. Its step, shown, is the buffered step of what is shown.
-use mathlib.Core.Path.{_≡_, refl, ap, _∙_, sym}
-use mathlib.Core.Bool.{Bool, true, false, cond, not, _&&_}
+use mathlib.Core.Path.{_≡_, refl, ap, _∙_}
+use mathlib.Core.Bool.{Bool, true, false, _&&_}
 use mathlib.Core.Option.{Option, none, some, Option·map}
-use Prim.Native.Nat.{ℕ, zero, suc, _+_, _<_}
-use mathlib.Core.List.{List, [], _∷_, _++_, map, List·Memᴰ, List·Memᴰ·head, List·Memᴰ·tail}
-use lib.ListN.{length, getD, set}
-use lib.Seq.{getD-set-same, getD-set-other}
-use lib.Dec.{T, eqb, eqb·zero-suc, eqb·suc-zero, eqb·suc-suc}
+use Prim.Native.Nat.{ℕ, suc, _+_, _<_}
+use mathlib.Core.List.{List, [], _∷_, _++_, map}
+use lib.Dec.{eqb, eqb·zero-suc, eqb·suc-zero, eqb·suc-suc}
 use Rattle.lists.specs.Lists.{All, first}
 use Rattle.lists.proofs.Lists.{all-of, first-map, first-ext}
-use Rattle.lists.proofs.Tests.{cond-ap}
 use Rattle.explore.specs.Explore.{Arc}
 use Rattle.thread.specs.declared.Line.{Line}
 use Rattle.thread.specs.declared.Model.{Model}
@@ -17,16 +14,15 @@ use Rattle.thread.specs.declared.Instr.{Instr}
 use Rattle.thread.specs.declared.Instr.the-variants as I
 use Rattle.thread.specs.declared.Op.{Op}
 use Rattle.thread.specs.declared.Op.the-variants as O
-use Rattle.thread.specs.Numbers.{_!_}
 use Rattle.thread.specs.Sizes.{variables}
-use Rattle.thread.specs.Table.{Prog, next, varAt, stores, isStore}
-use Rattle.waiting.specs.Discipline.{Ready, addWait, newest, ready, readyFor}
-use Rattle.waiting.proofs.Mapped.{map-addWait, map-newest, mapReady, map-readyFor}
+use Rattle.thread.specs.Table.{Prog, varAt}
+use Rattle.waiting.specs.Discipline.{Ready, newest, ready, readyFor}
+use Rattle.waiting.proofs.Mapped.{mapReady, map-readyFor}
 use Rattle.waiting.proofs.Queues.{first-ready}
 use Rattle.runs.specs.Run.{In}
 use Rattle.runs.proofs.Worlds.{within}
 use Rattle.graphs.specs.Graph.{Standing, NodeEdges, loadOp, edge, programEdges, putEdge, edgesOf}
-use Rattle.buffered.specs.Machine.{Pair, varOf, Buffered, programStep, putPair, bufferedStep}
+use Rattle.buffered.specs.Machine.{Pair, varOf, Buffered, putPair, bufferedStep}
 use Rattle.generated.specs.Machine.{waitingValue, choiceOf, testHolds, serves, Values, act}
 
 pub record Middle : Type 0 where

@@ -1,18 +1,17 @@
 -- A step along the numbered edge records is a step along the edges of the nodes that the numbers name.
-use mathlib.Core.Path.{_≡_, refl, ap, _∙_, sym, subst}
+use mathlib.Core.Path.{_≡_, refl, ap, _∙_}
 use mathlib.Core.Logic.{_≢_}
 use mathlib.Core.Bool.{Bool, true, false, cond, _&&_}
 use mathlib.Core.Option.{Option, none, some, Option·map}
-use Prim.Native.Nat.{ℕ, zero, suc, _+_, _<_, _≤_}
+use Prim.Native.Nat.{ℕ, zero, suc, _+_, _<_}
 use native.Mathlib.Omega.{arith}
-use mathlib.Core.List.{List, [], _∷_, _++_, map, map-append, List·Memᴰ, List·Memᴰ·head, List·Memᴰ·tail}
+use mathlib.Core.List.{List, [], _∷_, _++_, map, map-append}
 use lib.ListN.{length, getD, length-set}
-use lib.Dec.{T, eqb}
+use lib.Dec.{eqb}
 use Rattle.lists.specs.Lists.{All, first}
-use Rattle.lists.proofs.Lists.{Holds, holds-map, holds-imp, all-of, all-first, first-map, first-append, first-left, mem-getD}
-use Rattle.lists.proofs.Tests.{eq-true, eq-false, by-cond}
-use Rattle.explore.specs.Explore.{Arc, Link, Graph, Right, indexOf, arcEdge, edgesFrom, reach-step}
-use Rattle.thread.specs.declared.Line.{Line}
+use Rattle.lists.proofs.Lists.{Holds, holds-map, holds-imp, all-of, all-first, first-append, first-left, mem-getD}
+use Rattle.lists.proofs.Tests.{eq-true, eq-false}
+use Rattle.explore.specs.Explore.{Arc, Graph, Right, indexOf, arcEdge, edgesFrom, reach-step}
 use Rattle.thread.specs.declared.Node.{Node}
 use Rattle.thread.specs.declared.Op.{Op}
 use Rattle.thread.specs.declared.Op.the-variants as O
@@ -22,8 +21,8 @@ use Rattle.graphs.specs.Graph.{Standing, NodeEdges, begin, systemOf}
 use Rattle.graphs.specs.declared.Edge.{Edge}
 use Rattle.graphs.specs.Records.{node, numbered, edgesIn}
 use Rattle.generated.specs.declared.Generated.{Generated}
-use Rattle.generated.specs.Machine.{serves, Values, values, act, follow, sameNode, edgeFor, generatedStep}
-use Rattle.agree.proofs.Middle.{Middle, arrive, followArc, test, stepAlong}
+use Rattle.generated.specs.Machine.{serves, Values, act, follow, sameNode, edgeFor, generatedStep}
+use Rattle.agree.proofs.Middle.{Middle, followArc, test, stepAlong}
 
 module _ (succ : NodeEdges) (cap : ℕ) (ns : List Standing) where
   abbrev pub name : Node → Standing

@@ -1,21 +1,18 @@
 -- The program step along the edges of the graph, shown, is the buffered program step of what is shown. So all steps match.
 use mathlib.Core.Path.{_≡_, refl, ap, _∙_, sym}
-use mathlib.Core.Logic.{_≢_}
 use mathlib.Core.Bool.{Bool, true, false, cond, not}
 use mathlib.Core.Option.{Option, none, some, Option·map, Option·getD}
 use Prim.Native.Nat.{ℕ, zero, suc, _+_, _<_}
 use mathlib.Core.List.{List, [], _∷_, _++_, map, List·Memᴰ, List·Memᴰ·head, List·Memᴰ·tail}
-use lib.ListN.{length, getD, set}
+use lib.ListN.{length, set}
 use lib.Seq.{getD-set-same, getD-set-other}
 use lib.Dec.{T, eqb}
-use Rattle.lists.specs.Lists.{All, first}
+use Rattle.lists.specs.Lists.{first}
 use Rattle.lists.proofs.Tests.{cond-ap}
-use Rattle.explore.specs.Explore.{Arc}
 use Rattle.thread.specs.declared.Line.{Line}
 use Rattle.thread.specs.declared.Model.{Model}
 use Rattle.thread.specs.declared.Instr.{Instr}
 use Rattle.thread.specs.declared.Instr.the-variants as I
-use Rattle.thread.specs.declared.Op.{Op}
 use Rattle.thread.specs.Numbers.{_!_}
 use Rattle.thread.specs.Sizes.{variables}
 use Rattle.thread.specs.Table.{Prog, next, varAt, stores, isStore}
@@ -23,9 +20,9 @@ use Rattle.waiting.specs.Discipline.{Ready, addWait, newest, ready}
 use Rattle.waiting.proofs.Mapped.{map-addWait, map-newest}
 use Rattle.runs.specs.Run.{In}
 use Rattle.runs.proofs.Worlds.{within}
-use Rattle.graphs.specs.Graph.{Standing, programEdges, putEdge, edgesOf}
-use Rattle.buffered.specs.Machine.{Pair, varOf, Buffered, programStep, bufferedStep}
-use Rattle.generated.specs.Machine.{waitingValue, serves, Values}
+use Rattle.graphs.specs.Graph.{programEdges, putEdge, edgesOf}
+use Rattle.buffered.specs.Machine.{varOf, Buffered, programStep, bufferedStep}
+use Rattle.generated.specs.Machine.{serves, Values}
 use Rattle.agree.proofs.Middle.{Middle, arrive, followArc, test, middleStep, stepAlong, pairOf, shows, no-put, same-put}
 
 -- an auxiliary that is written shows in no line that waits

@@ -1,17 +1,15 @@
 -- One accepted thread: its generated step, shown, is the buffered step of what is shown, and goes on being so.
-use mathlib.Core.Path.{_≡_, refl, ap, _∙_, sym, subst}
-use mathlib.Core.Option.{Option, none, some, Option·map, map-map}
-use Prim.Native.Nat.{ℕ, _+_, _*_, _≤_, _<_}
+use mathlib.Core.Path.{_≡_, ap, _∙_, sym, subst}
+use mathlib.Core.Option.{none, Option·map, map-map}
+use Prim.Native.Nat.{ℕ, _≤_, _<_}
 use native.Mathlib.Omega.{arith}
-use mathlib.Core.List.{List, [], _∷_, map, List·Memᴰ}
-use lib.ListN.{length, getD, take}
+use mathlib.Core.List.{List}
+use lib.ListN.{length, getD}
 use Rattle.lists.proofs.Lists.{Holds, holds-imp, mem-getD}
-use Rattle.explore.specs.Explore.{Graph, Outcome, Right, done}
-use Rattle.thread.specs.declared.Line.{Line}
-use Rattle.thread.specs.declared.Model.{Model}
+use Rattle.explore.specs.Explore.{Outcome}
 use Rattle.thread.specs.declared.Op.{Op}
-use Rattle.thread.specs.Sizes.{mostLines, variables}
-use Rattle.thread.specs.Table.{Prog, instrAt, linesOf, varAt}
+use Rattle.thread.specs.Sizes.{mostLines}
+use Rattle.thread.specs.Table.{Prog, instrAt, linesOf}
 use Rattle.checks.specs.Lines.{follows}
 use Rattle.checks.specs.Checks.{modelOf}
 use Rattle.checks.proofs.Instructions.{good-var}
@@ -19,7 +17,6 @@ use Rattle.checks.proofs.Loops.{leads-inside}
 use Rattle.checks.proofs.Given.{Admitted, admitted}
 use Rattle.graphs.specs.Graph.{Standing, NodeEdges, begin, edgesOf}
 use Rattle.graphs.specs.Build.{capOf, exploredBy, graphFound, refusalBy, refusal, buildBy, build, accepted, buildAnswer}
-use Rattle.graphs.specs.Records.{numbered}
 use Rattle.graphs.proofs.Waits.{Good, fresh}
 use Rattle.graphs.proofs.Pending.{good}
 use Rattle.graphs.proofs.Given.{AcceptedBy, Accepted, accepted-when}
@@ -31,7 +28,7 @@ use Rattle.buffered.specs.Machine.{Buffered, bufferedStep}
 use Rattle.generated.specs.declared.Generated.{Generated}
 use Rattle.generated.specs.Machine.{generatedStep}
 use Rattle.generated.specs.RunGenerated.{edgeTable}
-use Rattle.agree.proofs.Middle.{Middle, shows, middleStep}
+use Rattle.agree.proofs.Middle.{shows}
 use Rattle.agree.proofs.Same.{Fresh, same-step}
 use Rattle.agree.proofs.Numbers.{Linked, named, nameState, same-named, step-keeps}
 

@@ -1,15 +1,13 @@
 -- Law L7, demand 3: the run of the generated threads, shown, is the run of the buffered threads.
 use mathlib.Core.Path.{_≡_, refl, ap, _∙_, sym, subst}
-use mathlib.Core.Option.{Option, none, some, Option·map}
-use Prim.Native.Nat.{ℕ, zero, suc, _+_, _*_, _-_, _≤_, _<_}
+use mathlib.Core.Option.{Option, none, some}
+use Prim.Native.Nat.{ℕ, zero, suc, _+_, _-_, _≤_, _<_}
 use native.Mathlib.Nat.{zero-add, add-zero, add-suc, suc-add}
 use native.Mathlib.Omega.{arith}
 use mathlib.Core.List.{List, [], _∷_, _++_, map}
-use lib.ListN.{length, getD, take, replicate, length-replicate}
+use lib.ListN.{length, getD, replicate, length-replicate}
 use Rattle.lists.specs.Lists.{each, listed, collect}
-use Rattle.explore.specs.Explore.{Right}
-use Rattle.thread.specs.Sizes.{mostLines, mostThreads}
-use Rattle.thread.specs.Numbers.{zeros}
+use Rattle.thread.specs.Sizes.{mostThreads}
 use Rattle.thread.specs.Table.{line, Prog, instrAt}
 use Rattle.checks.specs.Checks.{admission, modelOf}
 use Rattle.graphs.specs.Graph.{Standing, begin, edgesOf}
@@ -17,17 +15,16 @@ use Rattle.graphs.specs.Build.{refusal, build, buildAnswer}
 use Rattle.graphs.specs.Records.{node, nodeAt}
 use Rattle.graphs.proofs.Given.{Accepted, accepted-when}
 use Rattle.graphs.proofs.Tables.{number-by, reads}
-use Rattle.runs.specs.declared.Ended.{Ended}
-use Rattle.runs.specs.Run.{In, World, Stand, items, run, threadsRefused, endOf, runAnswer}
-use Rattle.runs.specs.Start.{Start, tableOf, registersOf, startWorld}
-use Rattle.runs.specs.Shown.{ShownThread, Shown, nobody, shownState}
+use Rattle.runs.specs.Run.{In, Stand, items, run, threadsRefused, endOf, runAnswer}
+use Rattle.runs.specs.Start.{Start, tableOf, startWorld}
+use Rattle.runs.specs.Shown.{ShownThread, nobody, shownState}
 use Rattle.runs.proofs.Worlds.{Each, viewWorld, viewStand, same-runs, run-keeps}
 use Rattle.buffered.specs.Machine.{Buffered, bufferedStep}
-use Rattle.buffered.specs.RunBuffered.{startThread, shownBuffered, BufferedResult, standBuffered, resultBuffered, runBuffered}
+use Rattle.buffered.specs.RunBuffered.{startThread, shownBuffered, standBuffered, resultBuffered, runBuffered}
 use Rattle.generated.specs.declared.Generated.{Generated}
 use Rattle.generated.specs.Machine.{generatedStep}
-use Rattle.generated.specs.RunGenerated.{Rooms, nodeRoom, edgeRoom, builtFor, edgeTable, startGenerated, shownAt, shownGenerated, GeneratedResult, standGenerated, resultGenerated, threadRefusal, runGenerated}
-use Rattle.agree.specs.Demands.{AllAccepted, SameThread, Agree, upTo, Demand3}
+use Rattle.generated.specs.RunGenerated.{Rooms, nodeRoom, edgeRoom, builtFor, edgeTable, startGenerated, shownAt, shownGenerated, standGenerated, resultGenerated, threadRefusal, runGenerated}
+use Rattle.agree.specs.Demands.{SameThread, Agree, upTo, Demand3}
 use Rattle.agree.proofs.Middle.{shows}
 use Rattle.agree.proofs.Numbers.{named}
 use Rattle.agree.proofs.Threads.{nodesOf, viewBy, view, Alive, nodes-are, same-thread, stays-alive}

@@ -5,7 +5,7 @@ use mathlib.Core.Option.{some, none}
 use Prim.Native.Nat.{ℕ, zero, suc, _+_, _≤_}
 use native.Mathlib.Omega.{arith}
 use mathlib.Core.List.{List, [], _∷_}
-use Rattle.runs.specs.Run.{In, World, Item, items, run}
+use Rattle.runs.specs.Run.{World, Item, items, run}
 use Rattle.runs.proofs.Simulated.{Step, Followed, AlikeIn, AlikeWorld, AlikeStand, sim-runs}
 
 -- by one, at choice 0
