@@ -1,4 +1,6 @@
 // The refusals 2 to 10 of a model and a table: each check a function, the first that refuses counts.
+#![tactic(auto)]
+
 ghost use Rattle.std.specs.Prelude.{◌≡◌, true, ◌&&◌, [], ◌∷◌, ◌<◌, ◌≤◌, set, leb};
 ghost use Rattle.lists.specs.Lists.{any};
 ghost use Rattle.thread.specs.Table.{line, instr_at, fields_of};

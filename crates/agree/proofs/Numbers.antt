@@ -114,9 +114,9 @@ module _ (succ : NodeEdges) (cap : ℕ) (g : Graph Standing Op) (table : List �
   to_edge k a = numbered_arc succ cap g.nodes k a
 
   -- the table's edge for a choice is that of the node's edges
-  edge_for : (k c : ℕ) (R : List ℕ) → k < length g.nodes → edge_for (edges_in table) (node k) c R ≡ Option.map (to_edge k) (first (test c R) (arcs k))
+  edge-for : (k c : ℕ) (R : List ℕ) → k < length g.nodes → edge_for (edges_in table) (node k) c R ≡ Option.map (to_edge k) (first (test c R) (arcs k))
   unfolding edge_for
-  edge_for k c R lt = rw (ok.reads, ok.right.edges) (found succ cap g.nodes c R k 0 k g.nodes (omega arith) lt)
+  edge-for k c R lt = rw (ok.reads, ok.right.edges) (found succ cap g.nodes c R k 0 k g.nodes (omega arith) lt)
 
   -- an arc out of a known node leads to a known node
   Leads : Arc Standing Op → Type 0
@@ -138,7 +138,7 @@ module _ (succ : NodeEdges) (cap : ℕ) (g : Graph Standing Op) (table : List �
   same-named c s lt =
       let k = s.own.node.0 in
       let R = s.own.registers in
-      rw (edge_for k c R lt) (follow-named s k (first (test c R) (arcs k)) (all_first Leads (test c R) (arcs k) (all-lead k lt)))
+      rw (edge-for k c R lt) (follow-named s k (first (test c R) (arcs k)) (all_first Leads (test c R) (arcs k) (all-lead k lt)))
 
   -- it leads to a known node, and keeps the auxiliary values
   pub step_keeps : (c : ℕ) (s : In Generated) → s.own.node.0 < length g.nodes
@@ -149,7 +149,7 @@ module _ (succ : NodeEdges) (cap : ℕ) (g : Graph Standing Op) (table : List �
       let R = s.own.registers in
       let o = first (test c R) (arcs k) in
       let P : In Generated → Type 0 = λ r. (r.own.node.0 < length g.nodes) × (length r.own.auxiliaries ≡ length s.own.auxiliaries) in
-      rw (edge_for k c R lt)
+      rw (edge-for k c R lt)
       (holds-map P (follow s) (Option.map (to_edge k) o)
       (holds-map (λ e. P (follow s e)) (to_edge k) o
       (holds-imp Leads (λ a. P (follow s (to_edge k a))) (λ a h. (h.0, act-length a.label s.memory R s.own.auxiliaries)) o

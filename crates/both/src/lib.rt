@@ -1,4 +1,6 @@
 // Demand 3 in code: both runs of the same threads, and that what they return agrees.
+#![tactic(auto)]
+
 ghost use Rattle.std.specs.Prelude.{[], ◌∷◌};
 ghost use Rattle.both.specs.Returned.{BothRun};
 

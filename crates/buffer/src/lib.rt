@@ -1,4 +1,6 @@
 // One step of a buffered thread in code, in lent lists and by value: what the choice changes, and the change made.
+#![tactic(auto)]
+
 ghost use Rattle.std.specs.Prelude.{◌≡◌, ℕ, ◌<◌, List, length, set};
 ghost use Rattle.pending.specs.Pending.{put_in, take_out};
 ghost use Rattle.chosen.specs.Decide.{thread_of, decided};

@@ -1,1 +1,2 @@
 // The buffered run: threads with store buffers, by the buffer rules.
+#![tactic(auto)]

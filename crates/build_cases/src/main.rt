@@ -1,4 +1,6 @@
 // The known answers that are run: number, place, nodes and edges of each, one line a case.
+#![tactic(auto)]
+
 ghost use Rattle.std.specs.Prelude.{◌≤◌};
 
 use builder::build;

@@ -1,4 +1,6 @@
 // Bytes put into a lent area one after the other, as many as there is room for: single bytes, strings, decimal numbers, and zeros behind them.
+#![tactic(auto)]
+
 ghost use Rattle.std.specs.Prelude.{◌≡◌, ◌∷◌};
 ghost use Rattle.decimal.specs.Decimal.{decimal};
 ghost use Rattle.bytes_out.specs.Page.{page, put, puts, cleared, tab};

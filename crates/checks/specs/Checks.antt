@@ -1,6 +1,6 @@
 -- "Numbers returned", 2 to 10: the checks of a model and a table, in their order. The first that answers counts.
 use Rattle.std.specs.Prelude.{Bool, true, false, cond, not, ◌&&◌, ℕ, suc, ◌-◌, ◌*◌, ◌%◌, List, [], ◌∷◌, length, eqb, leb, ltb}
-use Rattle.std.proofs.Math.Option.{Option, none, some, map, Option·elim}
+use Rattle.std.proofs.Math.Option.{Option, none, some, map, Option-elim}
 use Rattle.std.proofs.Math.ListN.{get_elem?}
 use Rattle.lists.specs.Lists.{collect, lowest}
 use Rattle.thread.specs.declared.Line.{Line}
@@ -90,8 +90,8 @@ target_of (I.Jump to) = some to
 target_of I.Return = none
 
 unfoldable pub wrong_target : ℕ → Instr → Bool
-unfolding target_of Option·elim
-wrong_target n i = Option·elim (target_of i) false (λ (to : Line). leb n to.0)
+unfolding target_of Option-elim
+wrong_target n i = Option-elim (target_of i) false (λ (to : Line). leb n to.0)
 
 unfoldable pub bad_target : List ℕ → Option Refusal
 unfolding at_lowest wrong_target instr_at

@@ -1,6 +1,6 @@
 -- What a choice changes.
 use Rattle.std.specs.Prelude.{cond, ℕ, zero, suc, List, take, eqb}
-use Rattle.std.proofs.Math.Option.{Option·elim}
+use Rattle.std.proofs.Math.Option.{Option-elim}
 use Rattle.thread.specs.declared.Line.{Line}
 use Rattle.thread.specs.declared.Model.{Model}
 use Rattle.thread.specs.declared.Instr.{Instr}
@@ -28,8 +28,8 @@ waiting_vars c = take c.count c.names
 
 -- "A load takes the newest waiting value for its variable, else memory"
 unfoldable pub seen_by : List ℕ → ThreadState → ℕ → ℕ
-unfolding last_for Option·elim
-seen_by M c x = Option·elim (last_for (waiting_vars c) x) (M ! x) (λ i. c.values ! i)
+unfolding last_for Option-elim
+seen_by M c x = Option-elim (last_for (waiting_vars c) x) (M ! x) (λ i. c.values ! i)
 
 -- "passes when nothing waits"
 abbrev pub drained_change : ThreadState → Change → Change
@@ -55,8 +55,8 @@ program_change I.Return M c = C.Nothing
 
 -- which pair the waiting store to x is
 unfoldable pub put_change : Model → ℕ → ThreadState → Change
-unfolding ready_at Option·elim
-put_change m x c = Option·elim (ready_at m (waiting_vars c) x) C.Nothing C.Put
+unfolding ready_at Option-elim
+put_change m x c = Option-elim (ready_at m (waiting_vars c) x) C.Nothing C.Put
 
 -- choice 0 is the program step, 1 + x the waiting store to x reaching memory
 unfoldable pub decided : Model → Instr → ℕ → List ℕ → ThreadState → Change

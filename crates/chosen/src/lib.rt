@@ -1,6 +1,8 @@
 // What a choice of a buffered thread changes: decided from lent lists, of which only the few numbers that matter are read.
+#![tactic(auto)]
+
 ghost use Rattle.std.specs.Prelude.{◌≡◌, cond, take, eqb};
-ghost use Rattle.std.proofs.Math.Option.{Option·elim};
+ghost use Rattle.std.proofs.Math.Option.{Option-elim};
 ghost use Rattle.thread.specs.Numbers.{◌!◌};
 ghost use Rattle.pending.specs.Places.{last_for};
 ghost use Rattle.chosen.specs.Decide.{thread_of, following, program_change, decided};
@@ -33,7 +35,7 @@ fn if_equal(a: u32, b: u32, x: Change, y: Change) -> Change
 
 // the newest waiting value for `x`, else memory
 fn seen(count: u32, memory: &[u32], names: &[u32], values: &[u32], x: u32) -> u32
-    ensures { result ≡ Option·elim (last_for (take count names.now) x) (memory.now ! x) (λ i. values.now ! i) }
+    ensures { result ≡ Option-elim (last_for (take count names.now) x) (memory.now ! x) (λ i. values.now ! i) }
 {
     match pending::last_for(names, count as usize, x) {
         Found::At(i) => number(values, i),

@@ -1,4 +1,6 @@
 // Decimal numbers as bytes: the number that bytes are, if they are one.
+#![tactic(auto)]
+
 ghost use Rattle.std.specs.Prelude.{◌≡◌};
 ghost use Rattle.decimal.specs.Decimal.{read_from, read_number};
 ghost use Rattle.decimal.specs.Number.{number_or};

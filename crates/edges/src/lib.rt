@@ -1,4 +1,6 @@
 // Edge records read: the operation that a record names, whether it serves a choice, and a table's first edge that leaves a node and does.
+#![tactic(auto)]
+
 ghost use Rattle.std.specs.Prelude.{◌≡◌, ◌+◌, ◌-◌, ◌*◌, ◌≤◌, length};
 ghost use Rattle.thread.specs.Numbers.{◌!◌};
 ghost use Rattle.thread.specs.Operation.{op_named, in_range, op_of};

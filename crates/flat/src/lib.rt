@@ -1,5 +1,7 @@
 // Four generated threads held flat: their nodes, registers and auxiliary values each in one array, thread by thread. A turn of
 // one of them is done where its values lie: it reads the few numbers that its step needs, and writes one or two.
+#![tactic(auto)]
+
 ghost use Rattle.std.specs.Prelude.{◌≡◌, [], ◌∷◌, ◌<◌, length, get_or};
 ghost use Rattle.runs.specs.Run.{takes};
 ghost use Rattle.step.specs.Step.{searched};

@@ -1,4 +1,6 @@
 // The generated run: threads without store buffers, that step by the edge records alone. Definitions and laws.
+#![tactic(auto)]
+
 use thread::Node;
 
 // a generated thread: its node, its registers and an auxiliary value for each line

@@ -1,4 +1,6 @@
 // Reads a thread's text from standard input and prints its graph, or why it is refused.
+#![tactic(auto)]
+
 use printed::Printed;
 use show::show;
 

@@ -1,5 +1,7 @@
 // The two forms over references: a search in a lent slice of edges, and one schedule item carried out on a machine behind a `&mut`.
 // Both are thin: what they do is done by functions on values.
+#![tactic(auto)]
+
 ghost use Rattle.std.specs.Prelude.{◌&&◌, [], ◌∷◌, ◌≡◌, ◌<◌, ltb, get_or};
 ghost use Rattle.generated.specs.Machine.{edge_for};
 ghost use Rattle.edges.specs.Answers.{taken};

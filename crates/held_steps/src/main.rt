@@ -1,6 +1,8 @@
 // Carries schedules out item by item on a machine of its own, over the edges that were built, and lets `run_generated` do the same
 // schedules. Shows both end states, and whether they are the same. The threads are those of P10: one stores the angle and then the
 // mark, the other reads the mark and then the angle.
+#![tactic(auto)]
+
 ghost use Rattle.std.specs.Prelude.{◌≡◌, [], ◌∷◌};
 ghost use Rattle.runs.specs.Run.{items, run};
 ghost use Rattle.held.specs.Held.{world_of, along_own};

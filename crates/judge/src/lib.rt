@@ -1,4 +1,6 @@
 // The refusals of a run of buffered threads: 14, then 2 to 10 thread by thread.
+#![tactic(auto)]
+
 ghost use Rattle.std.specs.Prelude.{◌≡◌, [], ◌∷◌, ◌<◌, ◌≤◌, get_or};
 ghost use Rattle.checks.specs.Checks.{admission};
 ghost use Rattle.runs.specs.Run.{first_bad, threads_refused};

@@ -1,4 +1,6 @@
 // The C interface: the same answers through numbers and pointers.
+#![tactic(auto)]
+
 ghost use Rattle.std.specs.Prelude.{◌≡◌, [], ◌∷◌, ◌++◌, ◌+◌, ◌≤◌, length, take};
 ghost use Rattle.buffered.specs.RunBuffered.{run_buffered};
 ghost use Rattle.generated.specs.RunGenerated.{run_generated};

@@ -1,4 +1,6 @@
 // A built graph as the paper's text, in a lent area of bytes; and a refusal.
+#![tactic(auto)]
+
 ghost use Rattle.std.specs.Prelude.{◌≡◌, map, ◌+◌, ◌-◌, length};
 ghost use Rattle.decimal.specs.Decimal.{decimal};
 ghost use Rattle.thread.specs.Numbers.{◌!◌};

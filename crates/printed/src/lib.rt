@@ -1,4 +1,5 @@
 // The printed form of a graph and of a refusal: definitions and laws, and how printing ends.
+#![tactic(auto)]
 
 // the length of the text, or why there is none
 #[derive(Drop)]

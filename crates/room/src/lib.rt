@@ -1,4 +1,6 @@
 // A lent room: zeroed, or filled with the graph of a thread that is present.
+#![tactic(auto)]
+
 ghost use Rattle.std.specs.Prelude.{[], ◌∷◌, length};
 ghost use Rattle.builder.specs.Result.{Leaves};
 ghost use Rattle.room.specs.Room.{made, Cleared};

@@ -1,4 +1,6 @@
 // The graphs of up to four threads in their lent rooms: built thread by thread up to the first that is refused, and zeroed at a refusal.
+#![tactic(auto)]
+
 ghost use Rattle.std.specs.Prelude.{◌≡◌, [], ◌∷◌};
 ghost use Rattle.graphs.specs.Build.{build_answer};
 ghost use Rattle.runs.specs.Run.{bad_threads};

@@ -1,5 +1,7 @@
 // The run of buffered threads: its refusals, then the schedule's items, one step each in flat lists: thread t's line and count at place t,
 // its registers, names and values at places 16 t to 16 t + 15.
+#![tactic(auto)]
+
 ghost use Rattle.std.specs.Prelude.{◌≡◌, cond, [], ◌∷◌, ◌++◌, ◌-◌, ◌<◌, ◌≤◌, get_or, take, replicate, ltb};
 ghost use Rattle.thread.specs.Table.{instr_at};
 ghost use Rattle.runs.specs.Run.{items, run};

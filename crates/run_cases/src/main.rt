@@ -1,4 +1,6 @@
 // The known answers P9 to P11 through the code of both runs: number, place, thread, steps, then memory 0 and 1 and registers 0 and 1 of both threads.
+#![tactic(auto)]
+
 use run_buffered::run_buffered;
 use run_generated::run_generated;
 use runs::Ended;

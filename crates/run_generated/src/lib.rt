@@ -1,4 +1,6 @@
 // The run of generated threads: their graphs are built in the lent rooms, then the schedule's items move them along the edge records.
+#![tactic(auto)]
+
 ghost use Rattle.std.specs.Prelude.{◌≡◌, [], ◌∷◌, ◌*◌, ◌≤◌, length, get_or};
 ghost use Rattle.runs.specs.Run.{items, run};
 ghost use Rattle.generated.specs.RunGenerated.{run_generated};

@@ -1,4 +1,6 @@
 // A thread's text becomes the text of its graph, or of its refusal: what the program `graph` does, on lent tables.
+#![tactic(auto)]
+
 ghost use Rattle.std.specs.Prelude.{◌≡◌, length};
 ghost use Rattle.printed.specs.Printed.{print'};
 ghost use Rattle.show.specs.Show.{shown_refusal, TableShown, TextShown};

@@ -1,4 +1,6 @@
 // What both runs give back, as the code holds it.
+#![tactic(auto)]
+
 ghost use Rattle.std.specs.Prelude.{◌≡◌};
 ghost use Rattle.runs.specs.Shown.{zero_state};
 ghost use Rattle.shown.specs.Ran.{part_of, nobody_state, ran_of};

@@ -1,4 +1,6 @@
 // What is shown of generated threads that are held flat: each by the record of its node in its own node table.
+#![tactic(auto)]
+
 ghost use Rattle.std.specs.Prelude.{◌≡◌, [], ◌∷◌, ◌+◌, ◌^◌, ◌<◌, length, get_or};
 ghost use Rattle.step.specs.Step.{held};
 ghost use Rattle.flat.specs.Flat.{thread_at, flat};

@@ -1,4 +1,6 @@
 // The step of a generated thread, by the edge records of a table alone: decide what changes, then apply it.
+#![tactic(auto)]
+
 ghost use Rattle.std.specs.Prelude.{◌≡◌, cond, set, eqb};
 ghost use Rattle.thread.specs.Numbers.{◌!◌};
 ghost use Rattle.generated.specs.Machine.{waiting_value, generated_step};

@@ -1,4 +1,6 @@
 // The reader: a text becomes a model and a table of lines, or a refusal.
+#![tactic(auto)]
+
 ghost use Rattle.std.specs.Prelude.{◌≡◌, ◌++◌, ◌+◌, ◌*◌, ◌≤◌, length, drop};
 ghost use Rattle.std.proofs.Math.Option.{map};
 ghost use Rattle.std.proofs.Math.Seq.{paste};

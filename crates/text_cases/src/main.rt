@@ -1,4 +1,6 @@
 // Reads texts, good and bad, and writes number, place, model and lines of each.
+#![tactic(auto)]
+
 use libc::STDOUT_FILENO;
 use text::Reading;
 use thread::Refusal;

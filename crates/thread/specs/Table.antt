@@ -1,7 +1,7 @@
 -- "The thread": a table holds five numbers a line, kind, then four fields.
 use Rattle.std.specs.Prelude.{ℕ, ◌+◌, ◌*◌, ◌/◌, Bool, true, false, List, [], ◌∷◌, length, ◌==◌, slice_index_or}
 use Rattle.std.proofs.Math.Option
-use Rattle.std.proofs.Math.Option.{Option, none, some, Option·elim}
+use Rattle.std.proofs.Math.Option.{Option, none, some, Option-elim}
 use Rattle.thread.specs.declared.Line.{Line}
 use Rattle.thread.specs.declared.Instr.{Instr}
 use Rattle.thread.specs.declared.Instr.TheVariants as I
@@ -95,8 +95,8 @@ stores (I.Jump to) = none
 stores I.Return = none
 
 unfoldable pub is_store : Instr → Bool
-unfolding stores Option·elim
-is_store i = Option·elim (stores i) false (λ x. true)
+unfolding stores Option-elim
+is_store i = Option-elim (stores i) false (λ x. true)
 
 -- the variable of the store line l
 unfoldable pub var_at : Prog → Line → ℕ

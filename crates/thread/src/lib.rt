@@ -1,4 +1,6 @@
 // What a thread is made of: its lines and instructions, the operations on the edges of its graph, and the reasons to refuse it.
+#![tactic(auto)]
+
 ghost use Rattle.std.specs.Prelude.{◌≡◌, ◌-◌, ◌++◌, length, take};
 ghost use Rattle.thread.specs.Numbers.{◌!◌, zeros};
 ghost use Rattle.thread.specs.Operation.{op_numbers};
@@ -114,6 +116,7 @@ pub fn clear(room: &mut [u32])
 }
 
 // the twelve kinds, 0 to 11, with their fields
+#[tactic(auto, unfolding(crate::specs::Table::instr_of))]
 pub fn instr_of(kind: u32, a: u32, b: u32, c: u32, d: u32) -> Instr
     ensures { result ≡ instr_of kind a b c d }
 {
@@ -148,6 +151,7 @@ pub fn instr_at(table: &[u32], line: Line) -> Instr
 }
 
 // kind 5 or 6
+#[tactic(auto, unfolding(crate::specs::Table::is_store))]
 pub fn is_store(instr: Instr) -> bool
     ensures { result ≡ is_store instr }
 {
@@ -159,6 +163,7 @@ pub fn is_store(instr: Instr) -> bool
 }
 
 // the sum modulo 2^32
+#[tactic(auto, unfolding(crate::specs::Word::add32))]
 pub fn add32(a: u32, b: u32) -> u32
     ensures { result ≡ Word.add32 a b }
 {
@@ -166,6 +171,7 @@ pub fn add32(a: u32, b: u32) -> u32
 }
 
 // the difference modulo 2^32
+#[tactic(auto, unfolding(crate::specs::Word::sub32))]
 pub fn sub32(a: u32, b: u32) -> u32
     ensures { result ≡ Word.sub32 a b }
 {
@@ -173,6 +179,7 @@ pub fn sub32(a: u32, b: u32) -> u32
 }
 
 // an operation's five numbers
+#[tactic(auto, unfolding(crate::specs::Operation::op_numbers))]
 pub fn op_numbers(op: Op) -> [u32; 5]
     ensures { result ≡ op_numbers op }
 {
@@ -194,6 +201,7 @@ pub fn op_numbers(op: Op) -> [u32; 5]
 }
 
 // a refusal's number
+#[tactic(auto, unfolding(crate::specs::Refusal::number_of))]
 pub fn number_of(refusal: Refusal) -> u64
     ensures { result ≡ number_of refusal }
 {
@@ -217,6 +225,7 @@ pub fn number_of(refusal: Refusal) -> u64
 }
 
 // a refusal's place
+#[tactic(auto, unfolding(crate::specs::Refusal::place_of))]
 pub fn place_of(refusal: Refusal) -> u64
     ensures { result ≡ place_of refusal }
 {

@@ -199,6 +199,7 @@ module _ {A : Type 0} (v : A → ℕ) where
 
   first-is : (x : ℕ) (qs : List (Ready A)) (q : Ready A) → Memᴰ q qs → Rising qs → v q.store ≡ x → first (for x) qs ≡ some q
   unfolding first
+  first-is x [] q m h p = elim m [ ]
   first-is x (r ∷ qs) q (Memᴰ.head e) h p = rw (← e, p, eq-true)
   first-is x (r ∷ qs) q (Memᴰ.tail m) h p =
       let l : v r.store < v q.store = all-at (λ s. v r.store < v s.store) m h.0 in
