@@ -3,7 +3,7 @@ use mathlib.Core.Path.{◌≡◌, refl, ap, ◌∙◌}
 use mathlib.Core.Bool.{Bool, true, false, ◌&&◌}
 use mathlib.Core.Option
 use mathlib.Core.Option.{Option, none, some}
-use Prim.Native.Nat.{ℕ, suc, ◌+◌, ◌<◌}
+use Prim.Native.Nat.{ℕ, suc, ◌<◌}
 use mathlib.Core.List.{List, [], ◌∷◌, ◌++◌, map}
 use lib.Dec.{eqb, eqb-zero-suc, eqb-suc-zero, eqb-suc-suc}
 use Rattle.lists.specs.Lists.{All, first}
@@ -14,7 +14,6 @@ use Rattle.thread.specs.declared.Model.{Model}
 use Rattle.thread.specs.declared.Instr.{Instr}
 use Rattle.thread.specs.declared.Instr.TheVariants as I
 use Rattle.thread.specs.declared.Op.{Op}
-use Rattle.thread.specs.declared.Op.TheVariants as O
 use Rattle.thread.specs.Sizes.{variables}
 use Rattle.thread.specs.Table.{Prog, var_at}
 use Rattle.waiting.specs.Discipline.{Ready, newest, ready, ready_for}

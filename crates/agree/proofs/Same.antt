@@ -3,7 +3,7 @@ use mathlib.Core.Path.{◌≡◌, refl, ap, ◌∙◌, sym}
 use mathlib.Core.Bool.{Bool, true, false, cond, not}
 use mathlib.Core.Option
 use mathlib.Core.Option.{Option, none, some, get_or}
-use Prim.Native.Nat.{ℕ, zero, suc, ◌+◌, ◌<◌}
+use Prim.Native.Nat.{ℕ, zero, suc, ◌<◌}
 use mathlib.Core.List.{List, [], ◌∷◌, ◌++◌, map, Memᴰ}
 use lib.ListN.{length, set}
 use lib.Seq.{get_or-set_same, get_or-set_other}

@@ -1,20 +1,18 @@
 -- What the two kinds of thread show: the line's variable is the pair's, the values are equal, in order.
-use mathlib.Core.Path.{◌≡◌, refl, ap, ◌∙◌, sym}
-use Prim.Native.Nat.{ℕ, zero, suc, ◌-◌, ◌<◌, ◌≤◌}
+use mathlib.Core.Path.{◌≡◌, refl, ap}
+use Prim.Native.Nat.{ℕ, zero, suc, ◌<◌}
 use native.Mathlib.Omega.{arith}
-use native.Mathlib.Decide.{dec_lt}
-use mathlib.Core.List.{List, [], ◌∷◌, ◌++◌, map}
-use lib.ListN.{length, get_or, replicate, length-map, get_or-append, get_or-eq_default}
+use mathlib.Core.List.{List, [], ◌∷◌, map}
+use lib.ListN.{length, get_or, length-map}
 use Rattle.lists.specs.Lists.{each}
 use Rattle.thread.specs.declared.Line.{Line}
 use Rattle.thread.specs.Sizes.{most_waiting}
 use Rattle.thread.proofs.Filled.{filled_at}
-use Rattle.thread.specs.Numbers.{◌!◌, zeros, filled}
+use Rattle.thread.specs.Numbers.{◌!◌, filled}
 use Rattle.thread.specs.Table.{line, Prog, var_at}
-use Rattle.runs.specs.Shown.{Waited, ShownThread, name_of, value_of, shown_thread, nobody}
+use Rattle.runs.specs.Shown.{ShownThread, name_of, value_of, shown_thread, nobody}
 use Rattle.runs.proofs.Worlds.{Each}
 use Rattle.buffered.specs.RunBuffered.{pair_shown}
-use Rattle.generated.specs.Machine.{waiting_value}
 use Rattle.generated.specs.RunGenerated.{line_shown}
 use Rattle.agree.specs.Demands.{SameThread}
 use Rattle.agree.proofs.Middle.{pair_of}

@@ -12,7 +12,6 @@ use Rattle.checks.specs.Lines.{Unfenced, Cycle}
 use Rattle.checks.specs.Given.{Condition, at_line, LowestLine, before_loops, GivenBy}
 use Rattle.checks.proofs.Given.{given-iff}
 use Rattle.checks.proofs.Cycles.{unfenced-cycle}
-use Rattle.graphs.specs.declared.Built.TheVariants as B
 use Rattle.graphs.proofs.Answers.{the-answered}
 use Rattle.agree.specs.Demands.{Demand2, Demand2Loops}
 

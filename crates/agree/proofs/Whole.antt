@@ -8,11 +8,11 @@ use mathlib.Core.List.{List, [], ◌∷◌, ◌++◌, map}
 use lib.ListN.{length, get_or, replicate, length-replicate}
 use Rattle.lists.specs.Lists.{each, listed, collect}
 use Rattle.thread.specs.Sizes.{most_threads}
-use Rattle.thread.specs.Table.{line, Prog, instr_at}
+use Rattle.thread.specs.Table.{Prog, instr_at}
 use Rattle.checks.specs.Checks.{admission, model_of}
 use Rattle.graphs.specs.Graph.{Standing, begin, edges_of}
 use Rattle.graphs.specs.Build.{refusal, build, build_answer}
-use Rattle.graphs.specs.Records.{node, node_at}
+use Rattle.graphs.specs.Records.{node_at}
 use Rattle.graphs.proofs.Given.{Accepted, accepted-when}
 use Rattle.graphs.proofs.Tables.{reads}
 use Rattle.graphs.proofs.Answers.{number_by}

@@ -2,23 +2,20 @@
 use mathlib.Core.Path.{◌≡◌, refl}
 use Prim.Native.Nat.{ℕ, zero, suc, ◌<◌}
 use native.Mathlib.Omega.{arith}
-use mathlib.Core.List.{List, [], ◌∷◌, ◌++◌, Memᴰ}
-use lib.ListN.{length, get_or}
+use mathlib.Core.List.{List, [], ◌∷◌, Memᴰ}
+use lib.ListN.{get_or}
 use Rattle.lists.proofs.Lists.{mem-get_or}
-use Rattle.thread.specs.declared.Model.TheVariants.{Tso, Pso}
 use Rattle.thread.specs.declared.Op.TheVariants as O
 use Rattle.thread.specs.declared.Refusal.TheVariants as R
 use Rattle.thread.specs.Table.{line, instr_at}
 use Rattle.checks.specs.Checks.{model_of, bad_model, no_lines, too_many_lines, ragged_table, bad_field, too_many_stores, bad_target, no_next, unfenced_loop}
-use Rattle.graphs.specs.declared.Built.TheVariants as B
 use Rattle.graphs.specs.Build.{build, build_answer}
 use Rattle.graphs.specs.declared.Edge.{Edge}
 use Rattle.graphs.specs.Records.{node, node_at, edges_in}
 use Rattle.graphs.specs.Given.{GivenBuild}
 use Rattle.graphs.specs.TheGraph.{TheGraph, first_edges}
 use Rattle.runs.specs.declared.Ended.TheVariants as E
-use Rattle.runs.specs.Shown.{ShownThread, nobody}
-use Rattle.buffered.specs.RunBuffered.{run_buffered}
+use Rattle.runs.specs.Shown.{nobody}
 use Rattle.generated.specs.RunGenerated.{built_for, run_generated}
 use Rattle.agree.specs.Demands.{AllAccepted, Agree}
 use Rattle.agree.specs.Known.{node_room_of, edge_room_of, start_of, rooms_of}

@@ -1,6 +1,6 @@
 -- The three demands, as statements about the definitions of the builder and the two runs. Each is proved in proofs/Demands.antt.
-use Rattle.std.specs.Prelude.{◌≡◌, ◌↔◌, ◌⊎◌, ℕ, ◌+◌, ◌*◌, ◌≤◌, ◌<◌, List, [], get_or, length, take}
-use Rattle.std.proofs.Math.Option.{Option, none, some}
+use Rattle.std.specs.Prelude.{◌≡◌, ◌↔◌, ◌⊎◌, ℕ, ◌*◌, ◌≤◌, ◌<◌, List, [], get_or, take}
+use Rattle.std.proofs.Math.Option.{some}
 use Rattle.lists.specs.Lists.{Lowest}
 use Rattle.thread.specs.declared.Line.{Line}
 use Rattle.thread.specs.declared.Refusal.{Refusal}
@@ -12,18 +12,16 @@ use Rattle.thread.specs.Table.{line as to_line}
 use Rattle.checks.specs.Lines.{Cycle}
 use Rattle.checks.specs.Checks.{admission, model_of}
 use Rattle.checks.specs.Given.{before_loops, conditions, GivenBy, LowestLine}
-use Rattle.graphs.specs.declared.Built.{Built}
 use Rattle.graphs.specs.declared.Built.TheVariants as B
-use Rattle.graphs.specs.Build.{Result, build, build_answer}
+use Rattle.graphs.specs.Build.{build, build_answer}
 use Rattle.graphs.specs.Given.{GivenBuild}
 use Rattle.graphs.specs.TheGraph.{TheGraph}
-use Rattle.runs.specs.declared.Ended.{Ended}
 use Rattle.runs.specs.declared.Ended.TheVariants as E
 use Rattle.runs.specs.Run.{run_answer}
 use Rattle.runs.specs.Start.{Start, table_of}
-use Rattle.runs.specs.Shown.{ShownThread, Shown, nobody, zero_state}
-use Rattle.buffered.specs.RunBuffered.{BufferedResult, run_buffered}
-use Rattle.generated.specs.RunGenerated.{Rooms, node_room, edge_room, built_for, GeneratedResult, run_generated}
+use Rattle.runs.specs.Shown.{ShownThread, nobody, zero_state}
+use Rattle.buffered.specs.RunBuffered.{run_buffered}
+use Rattle.generated.specs.RunGenerated.{Rooms, node_room, edge_room, built_for, run_generated}
 
 -- 1. "Every table .. and lent room gets an answer. A bad one is refused by number and place, in the paper's order, and each refusal writes what the paper says."
 

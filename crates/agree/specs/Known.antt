@@ -1,11 +1,10 @@
 -- "Known answers": what is asked and what must be answered, as numbers, on tables of numbers. proofs/Known.antt computes them all.
-use Rattle.std.proofs.Math.Option.{Option, none, some}
-use Rattle.std.specs.Prelude.{ℕ, ◌+◌, ◌*◌, List, [], ◌∷◌, ◌++◌, map, length, get_or, take, drop}
+use Rattle.std.specs.Prelude.{ℕ, ◌*◌, List, [], ◌∷◌, ◌++◌, get_or, take, drop}
 use Rattle.thread.specs.Sizes.{node_width, edge_width, registers, variables}
-use Rattle.thread.specs.Numbers.{◌!◌, zeros}
+use Rattle.thread.specs.Numbers.{zeros}
 use Rattle.graphs.specs.Build.{BuildAnswer, build, build_answer}
 use Rattle.runs.specs.declared.Ended.{Ended}
-use Rattle.runs.specs.Run.{RunAnswer, run_answer}
+use Rattle.runs.specs.Run.{run_answer}
 use Rattle.runs.specs.Start.{Start}
 use Rattle.runs.specs.Shown.{ShownThread, Shown, nobody}
 use Rattle.buffered.specs.RunBuffered.{run_buffered}

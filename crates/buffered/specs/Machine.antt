@@ -1,5 +1,5 @@
 -- "The thread" and "The two buffers": one buffered thread and its steps.
-use Rattle.std.specs.Prelude.{◌≡◌, Bool, true, false, cond, ◌&&◌, ℕ, zero, suc, List, [], ◌∷◌, length, set, eqb, leb}
+use Rattle.std.specs.Prelude.{◌≡◌, Bool, true, false, cond, ◌&&◌, ℕ, zero, suc, List, [], length, set, eqb, leb}
 use Rattle.std.proofs.Math.Option.{Option, none, some, map}
 use Rattle.thread.specs.declared.Line.{Line}
 use Rattle.thread.specs.declared.Model.{Model}

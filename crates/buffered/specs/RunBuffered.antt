@@ -1,11 +1,11 @@
 -- The run of buffered threads: its answer and the state it shows, for every model, count, tables, start and schedule.
-use Rattle.std.proofs.Math.Option.{Option, none, some}
-use Rattle.std.specs.Prelude.{ℕ, List, [], ◌∷◌, map}
-use Rattle.thread.specs.Table.{line, Prog, instr_at}
+use Rattle.std.proofs.Math.Option.{none, some}
+use Rattle.std.specs.Prelude.{ℕ, [], map}
+use Rattle.thread.specs.Table.{line, instr_at}
 use Rattle.checks.specs.Checks.{admission, model_of}
 use Rattle.runs.specs.declared.Ended.{Ended}
 use Rattle.runs.specs.declared.Ended.TheVariants as E
-use Rattle.runs.specs.Run.{Stand, items, run, Bad, threads_refused, end_of}
+use Rattle.runs.specs.Run.{Stand, items, run, threads_refused, end_of}
 use Rattle.runs.specs.Start.{Start, table_of, registers_of, start_world}
 use Rattle.runs.specs.Shown.{Waited, ShownThread, Shown, shown_thread, shown_state, zero_state}
 use Rattle.buffered.specs.Machine.{Pair, Buffered, buffered_step}

@@ -1,5 +1,5 @@
 -- "Numbers returned", 2 to 10: the checks of a model and a table, in their order. The first that answers counts.
-use Rattle.std.specs.Prelude.{Bool, true, false, cond, not, ◌&&◌, ℕ, suc, ◌-◌, ◌*◌, ◌%◌, List, [], ◌∷◌, length, eqb, leb, ltb}
+use Rattle.std.specs.Prelude.{Bool, true, false, cond, not, ◌&&◌, ℕ, ◌-◌, ◌*◌, ◌%◌, List, [], ◌∷◌, length, eqb, leb, ltb}
 use Rattle.std.proofs.Math.Option.{Option, none, some, map, Option-elim}
 use Rattle.std.proofs.Math.ListN.{get_elem?}
 use Rattle.lists.specs.Lists.{collect, lowest}

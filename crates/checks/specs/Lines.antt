@@ -1,8 +1,8 @@
 -- "10 UnfencedLoop": lines that follow one another, and loops with a store but neither fence nor cas.
-use Rattle.std.specs.Prelude.{Bool, true, false, cond, not, ◌&&◌, ◌≡◌, ℕ, T}
+use Rattle.std.specs.Prelude.{Bool, true, false, cond, ◌&&◌, ◌≡◌, ℕ, T}
 use mathlib.Core.List.{List, [], ◌∷◌, map, Memᴰ}
 use Rattle.lists.specs.Lists.{All, any}
-use Rattle.explore.specs.Explore.{Arc, System, Graph, Outcome, done, too_many, Reached, explore}
+use Rattle.explore.specs.Explore.{Arc, System, Outcome, done, too_many, Reached, explore}
 use Rattle.thread.specs.declared.Line.{Line}
 use Rattle.thread.specs.declared.Instr.{Instr}
 use Rattle.thread.specs.declared.Instr.TheVariants as I

@@ -1,23 +1,21 @@
 -- What the paper says of a generated thread's steps, as laws.
 use mathlib.Core.Path.{◌≡◌, refl, ap}
-use mathlib.Core.Option.{Option, none, some}
-use mathlib.Core.Bool.{Bool, true, false, not, ◌&&◌}
-use Prim.Native.Nat.{ℕ, zero, suc, ◌+◌, ◌*◌, ◌<◌}
-use native.Mathlib.Omega.{arith}
-use mathlib.Core.List.{List, [], ◌∷◌}
-use lib.ListN.{length, set, get_or, get_or-eq_default}
+use mathlib.Core.Option.{none}
+use mathlib.Core.Bool.{true, not, ◌&&◌}
+use Prim.Native.Nat.{ℕ, suc, ◌<◌}
+use mathlib.Core.List.{List}
+use lib.ListN.{length, set, get_or-eq_default}
 use lib.Seq.{get_or-set_same}
 use lib.Dec.{eqb}
 use Rattle.lists.proofs.Lists.{Holds, first_passes, holds-imp}
 use Rattle.lists.proofs.Tests.{true-T, true-eq, is_true, both}
 use Rattle.thread.specs.declared.Line.{Line}
 use Rattle.thread.specs.declared.Node.{Node}
-use Rattle.thread.specs.declared.Op.{Op}
 use Rattle.thread.specs.declared.Op.TheVariants as O
 use Rattle.thread.specs.Numbers.{◌!◌}
 use Rattle.thread.specs.Operation.{operations, op_named, if_in_range, op_of}
 use Rattle.graphs.specs.declared.Edge.{Edge}
-use Rattle.generated.specs.Machine.{waiting_value, choice_of, test_holds, serves, act, same_node, edge_for}
+use Rattle.generated.specs.Machine.{choice_of, test_holds, serves, act, same_node, edge_for}
 
 -- "`put` writes it to x": what is put doesn't look at the registers, and is what was kept
 pub put-old : (x : ℕ) (l : Line) (M A R S : List ℕ) → (act (O.Put x l) M R A).memory ≡ (act (O.Put x l) M S A).memory

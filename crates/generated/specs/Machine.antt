@@ -1,7 +1,7 @@
 -- "A generated thread has its node, 16 registers and its auxiliary values, and no buffer. It steps only along the edge records built for it."
 -- The step sees the flat numbers of an edge table, any numbers, and nothing else of the thread's program.
-use Rattle.std.specs.Prelude.{Bool, true, false, cond, not, ◌&&◌, ℕ, zero, suc, List, [], ◌∷◌, set, eqb}
-use Rattle.std.proofs.Math.Option.{Option, none, some, map}
+use Rattle.std.specs.Prelude.{Bool, true, cond, not, ◌&&◌, ℕ, suc, List, set, eqb}
+use Rattle.std.proofs.Math.Option.{Option, map}
 use Rattle.lists.specs.Lists.{first}
 use Rattle.thread.specs.declared.Line.{Line}
 use Rattle.thread.specs.declared.Node.{Node}

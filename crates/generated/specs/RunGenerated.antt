@@ -1,5 +1,5 @@
 -- The run of generated threads: its answer, the state it shows and the full contents of the eight lent rooms, for every input.
-use Rattle.std.specs.Prelude.{Bool, true, false, cond, ℕ, ◌*◌, List, [], ◌∷◌, map, length, get_or, take, ltb}
+use Rattle.std.specs.Prelude.{cond, ℕ, ◌*◌, List, [], map, get_or, take, ltb}
 use Rattle.std.proofs.Math.Option.{Option, none, some}
 use Rattle.lists.specs.Lists.{each, collect}
 use Rattle.thread.specs.declared.Line.{Line}
@@ -8,10 +8,9 @@ use Rattle.thread.specs.Sizes.{most_lines, most_threads, edge_width}
 use Rattle.thread.specs.Numbers.{zeros}
 use Rattle.runs.specs.declared.Ended.{Ended}
 use Rattle.runs.specs.declared.Ended.TheVariants as E
-use Rattle.runs.specs.Run.{Stand, items, run, Bad, threads_refused, end_of}
+use Rattle.runs.specs.Run.{Stand, items, run, threads_refused, end_of}
 use Rattle.runs.specs.Start.{Start, table_of, registers_of, start_world}
 use Rattle.runs.specs.Shown.{Waited, ShownThread, Shown, shown_thread, shown_state, zero_state}
-use Rattle.graphs.specs.declared.Built.{Built}
 use Rattle.graphs.specs.Records.{node, node_at}
 use Rattle.graphs.specs.Graph.{Standing}
 use Rattle.graphs.specs.Build.{Result, build, refusal, build_answer}

@@ -1,7 +1,6 @@
 -- `clear_from` meets its contract: what stands in front of place i, with zeros behind, is what the whole is to be.
-use Rattle.thread.proofs.Zeroed.{cleared_more, cleared-all}
 use Rattle.thread.specs.Numbers.{zeros}
-use Rattle.std.proofs.Common.{◌≡◌, ◌+◌, ◌-◌, ◌++◌, length, take, sym, refl, ◌∙◌, arith, length-set, rules}
+use Rattle.std.proofs.Common.{◌≡◌, ◌-◌, ◌++◌, length, take}
 use Rattle.thread.proofs.clear_from.Given as goal
 
 abbrev pub invariant-loop-i : goal.invariant-loop-i

@@ -1,5 +1,4 @@
 -- `instr_at` makes the instruction of a line's five numbers.
-use Rattle.std.proofs.Common.{rules}
 use Rattle.thread.proofs.Instructions.{at-line}
 use Rattle.thread.proofs.instr_at.Goals as goal
 
