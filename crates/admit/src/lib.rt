@@ -21,7 +21,7 @@ pub fn model_of(model: u32) -> Model
     if model == 0 { Model::Tso } else { Model::Pso }
 }
 
-#[derive(Drop)]
+#[derive(Clone, Copy)]
 pub enum Admission {
     Accepted,
     Refused(Refusal),

@@ -4,7 +4,7 @@
 ghost use Rattle.std.specs.Prelude.{[], ◌∷◌};
 ghost use Rattle.both.specs.Returned.{BothRun};
 
-#[derive(Drop)]
+#[derive(Clone, Copy)]
 pub struct TwoRuns {
     pub buffered: shown::Ran,
     pub generated: shown::Ran,

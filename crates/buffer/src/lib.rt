@@ -12,7 +12,7 @@ use shown::ThreadState;
 use thread::{Instr, Line, Model};
 
 // `ok` where there was such a step; else all is as before
-#[derive(Drop)]
+#[derive(Clone, Copy)]
 pub struct Moved {
     pub ok: bool,
     pub memory: [u32; 16],
@@ -20,7 +20,7 @@ pub struct Moved {
 }
 
 // what a step in lent lists answers: `ok` as above, with the thread's line and count
-#[derive(Drop)]
+#[derive(Clone, Copy)]
 pub struct Turned {
     pub ok: bool,
     pub line: Line,

@@ -11,7 +11,7 @@ use pending::Found;
 use thread::{Instr, Line, Model, number};
 
 // what a step changes: the next line, with a register, a pair that waits, or register and memory of a cas; or the pair at a place reaches memory
-#[derive(Drop)]
+#[derive(Clone, Copy)]
 pub enum Change {
     Nothing,
     Go(Line),

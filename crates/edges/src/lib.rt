@@ -22,7 +22,7 @@ pub const LINES: u32 = 64;
 pub const EDGE_WIDTH: usize = 7;
 
 // the operation that five numbers name; junk names none
-#[derive(Drop)]
+#[derive(Clone, Copy)]
 pub enum Named {
     Is(Op),
     Junk,
@@ -119,7 +119,7 @@ pub fn serves(choice: u32, registers: &[u32], op: Op) -> bool
 }
 
 // an edge to go along, if there is one
-#[derive(Drop)]
+#[derive(Clone, Copy)]
 pub enum Taken {
     Along(Edge),
     Nothing,

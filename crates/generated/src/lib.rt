@@ -4,7 +4,7 @@
 use thread::Node;
 
 // a generated thread: its node, its registers and an auxiliary value for each line
-#[derive(Drop)]
+#[derive(Clone, Copy)]
 pub struct Generated {
     pub node: Node,
     pub registers: [u32; 16],

@@ -16,14 +16,14 @@ use step::Change;
 use thread::{Line, Node, Op};
 
 // what a look at one edge says: the edge if it fits, and where to look next
-#[derive(Drop)]
+#[derive(Clone, Copy)]
 struct Look {
     found: Taken,
     next: usize,
 }
 
 // up to four generated threads over one memory: the first `count` are there
-#[derive(Drop)]
+#[derive(Clone, Copy)]
 pub struct Machine {
     pub memory: [u32; 16],
     pub threads: [Generated; 4],
@@ -31,7 +31,7 @@ pub struct Machine {
 }
 
 // a machine after an item; not ok: the item names no step
-#[derive(Drop)]
+#[derive(Clone, Copy)]
 pub struct Next {
     pub m: Machine,
     pub ok: bool,

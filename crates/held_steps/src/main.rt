@@ -19,7 +19,7 @@ use shown::ThreadState;
 use thread::{Line, Node, number, number_of};
 
 // where a machine stands: how many items were done, and whether the next names no step
-#[derive(Drop)]
+#[derive(Clone, Copy)]
 struct Carried {
     m: Machine,
     done: u64,

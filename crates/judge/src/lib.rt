@@ -11,7 +11,7 @@ use admit::Admission;
 use thread::Refusal;
 
 // no thread is refused, or the first that is
-#[derive(Drop)]
+#[derive(Clone, Copy)]
 pub enum Judged {
     Fine,
     Bad(u32, Refusal),

@@ -2,7 +2,7 @@
 #![tactic(auto)]
 
 // the length of the text, or why there is none
-#[derive(Drop)]
+#[derive(Clone, Copy)]
 pub enum Printed {
     Written(usize),
     TooSmall,

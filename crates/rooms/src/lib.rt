@@ -10,7 +10,7 @@ use graphs::Built;
 use thread::Refusal;
 
 // what came of the graphs: the first thread that was refused, or how many edges each has
-#[derive(Drop)]
+#[derive(Clone, Copy)]
 pub enum Making {
     Refused(u32, Refusal),
     Graphs(u32, u32, u32, u32),

@@ -9,7 +9,7 @@ use runs::Ended;
 use thread::{Line, Refusal};
 
 // a thread as it is shown: the first `count` names (variables, or store lines) and values wait, in order; unused places are 0
-#[derive(Drop)]
+#[derive(Clone, Copy)]
 pub struct ThreadState {
     pub line: Line,
     pub registers: [u32; 16],
@@ -19,7 +19,7 @@ pub struct ThreadState {
 }
 
 // how the run ended, and the state it shows: memory and the threads, those that are not there all 0
-#[derive(Drop)]
+#[derive(Clone, Copy)]
 pub struct Ran {
     pub ended: Ended,
     pub memory: [u32; 16],

@@ -12,7 +12,7 @@ use thread::{Line, Node, Op};
 
 // What a step changes, and the node it goes to: nothing else, a register, a line's auxiliary, a variable, or a variable and
 // the register that a cas sets to 1. Nothing: there is no step.
-#[derive(Drop)]
+#[derive(Clone, Copy)]
 pub enum Change {
     Nothing,
     Go(Node),
@@ -23,7 +23,7 @@ pub enum Change {
 }
 
 // memory and thread after a step; not ok: there was none
-#[derive(Drop)]
+#[derive(Clone, Copy)]
 pub struct Moved {
     pub ok: bool,
     pub memory: [u32; 16],
@@ -31,7 +31,7 @@ pub struct Moved {
 }
 
 // what a step in place answers beside the values it leaves: whether there was one, and the thread's node then
-#[derive(Drop)]
+#[derive(Clone, Copy)]
 pub struct Stepped {
     pub ok: bool,
     pub node: Node,

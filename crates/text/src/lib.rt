@@ -17,7 +17,7 @@ use decimal::Number;
 use thread::{Refusal, clear};
 
 // model and lines, or why there are none
-#[derive(Drop)]
+#[derive(Clone, Copy)]
 pub enum Reading {
     Read(u32, u32),
     Refused(Refusal),
@@ -138,7 +138,7 @@ fn field_count(kind: u32) -> usize
     counts[kind as usize]
 }
 
-#[derive(Drop)]
+#[derive(Clone, Copy)]
 enum Field {
     Is(u32, usize),
     Not,
@@ -160,7 +160,7 @@ fn field_at(line: &[u8], at: usize) -> Field
 }
 
 // a line's five numbers, if it is good
-#[derive(Drop)]
+#[derive(Clone, Copy)]
 struct Five {
     ok: bool,
     numbers: [u32; 5],
@@ -219,7 +219,7 @@ fn good_line(text: &[u8], at: usize, end: usize) -> bool
     line.ok
 }
 
-#[derive(Drop)]
+#[derive(Clone, Copy)]
 enum Judged {
     Bad(usize),
     Good(usize),

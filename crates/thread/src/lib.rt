@@ -24,20 +24,20 @@ pub const VARIABLES: u32 = 16;
 pub const MOST_STORES: u32 = 16;
 
 // a line of a thread, by its number
-#[derive(Drop)]
+#[derive(Clone, Copy)]
 pub struct Line(pub u32);
 
 // a node of a thread's graph, by its number
-#[derive(Drop)]
+#[derive(Clone, Copy)]
 pub struct Node(pub u32);
 
-#[derive(Drop)]
+#[derive(Clone, Copy)]
 pub enum Model {
     Tso,
     Pso,
 }
 
-#[derive(Drop)]
+#[derive(Clone, Copy)]
 pub enum Instr {
     Set(u32, u32),
     Copy(u32, u32),
@@ -53,7 +53,7 @@ pub enum Instr {
     Return,
 }
 
-#[derive(Drop)]
+#[derive(Clone, Copy)]
 pub enum Op {
     Set(u32, u32),
     Copy(u32, u32),
@@ -71,7 +71,7 @@ pub enum Op {
 }
 
 // Why an input is refused, by the paper's names, with what fixes the place.
-#[derive(Drop)]
+#[derive(Clone, Copy)]
 pub enum Refusal {
     BadText(u64),
     BadModel,
