@@ -1,4 +1,5 @@
 pub mod Laws
+pub mod Beside
 pub mod Simulated
 pub mod Worlds
 pub mod Schedules

@@ -8,18 +8,12 @@ use mathlib.Core.List.{List, [], ◌∷◌, ◌++◌}
 use lib.ListN.{get_elem?, set}
 use Rattle.lists.proofs.Tests.{true-T, false-T}
 use Rattle.runs.specs.Run.{In, World, Stand, Item, back, takes, move, run}
+use Rattle.runs.proofs.Beside.{Beside}
 use Rattle.runs.proofs.Laws.{not-before}
 
 -- what thread t, by its number, does at choice c
 abbrev pub Step : Type 0 → Type 0
 Step T = ℕ → ℕ → In T → Option (In T)
-
--- Two answers beside each other: both are there and related, or neither is. `Alone` says when the second may be there alone.
-abbrev pub Beside : {A B : Type 0} → Type 0 → (A → B → Type 0) → Option A → Option B → Type 0
-Beside Alone P none none = Unit {0}
-Beside Alone P none (some b) = Alone
-Beside Alone P (some a) none = ⊥
-Beside Alone P (some a) (some b) = P a b
 
 -- the second has got what the first has got
 abbrev pub Followed : {A B : Type 0} → (A → B → Type 0) → Option A → Option B → Type 0

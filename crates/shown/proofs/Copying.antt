@@ -1,15 +1,14 @@
 -- `part` copies the numbers of one thread out of a flat list, place by place; of a list that is long enough they are its cut.
 use mathlib.Core.Path.{◌≡◌, sym, ap, ◌∙◌}
-use Prim.Native.Nat.{ℕ, ◌+◌, ◌*◌, ◌-◌, ◌≤◌, ◌<◌}
+use Prim.Native.Nat.{ℕ, ◌+◌, ◌*◌, ◌≤◌, ◌<◌}
 use native.Mathlib.Nat.{zero-add}
 use native.Mathlib.Numerals.{add-one}
 use native.Mathlib.Omega.{arith}
-use native.Mathlib.Decide.{dec_lt}
-use mathlib.Core.List.{List, ◌++◌, append-nil}
-use lib.ListN.{length, take, drop, set, length-take, length-drop, length-append, length-replicate, get_or-replicate, get_or-append, get_or-eq_default}
-use lib.Seq.{paste, paste-zero, paste-suc, take_all, get_or-take, get_or-drop, get_or-append-add}
+use mathlib.Core.List.{List, append-nil}
+use lib.ListN.{length, take, drop, set, length-take, length-drop, length-append, length-replicate}
+use lib.Seq.{paste, paste-zero, paste-suc, take_all, get_or-take, get_or-drop}
 use Rattle.thread.proofs.Filled.{filled_at}
-use Rattle.thread.specs.Numbers.{◌!◌, zeros, filled}
+use Rattle.thread.specs.Numbers.{◌!◌, zeros}
 use Rattle.shown.specs.Ran.{cut, part_of}
 
 module _ (all : List ℕ) (t : ℕ) where
