@@ -56,6 +56,7 @@ fn put_numbers(area: &mut [u8], at: usize, table: &[u32], from: usize, end: usiz
 }
 
 // how many fields an operation has
+#[tactic(auto, unfolding(printed::specs::Graph::field_count))]
 fn field_count(op: u32) -> usize
     ensures { result ≡ field_count op }
 {
@@ -77,6 +78,7 @@ fn field_count(op: u32) -> usize
     }
 }
 
+#[tactic(auto, unfolding(thread::specs::Names::op_name, thread::specs::Names::op_names))]
 fn put_op(area: &mut [u8], at: usize, op: u32) -> usize
     ensures { page area.new result ≡ puts (page area.old at) (op_name op) }
 {
@@ -98,6 +100,7 @@ fn put_op(area: &mut [u8], at: usize, op: u32) -> usize
     }
 }
 
+#[tactic(auto, unfolding(thread::specs::Names::model_name, thread::specs::Names::model_names))]
 fn put_model(area: &mut [u8], at: usize, model: u32) -> usize
     ensures { page area.new result ≡ puts (page area.old at) (model_name model) }
 {
@@ -274,6 +277,7 @@ pub fn print(model: u32, n: u32, m: u32, nodes: &[u32], edges: &[u32], area: &mu
 }
 
 // "A refusal prints `refused`, number, place"
+#[tactic(auto, unfolding(printed::specs::Printed::printed_refusal))]
 pub fn print_refusal(number: u64, place: u64, area: &mut [u8]) -> Printed
     ensures { print' result area.new ≡ printed_refusal number place (length area.old) }
 {
