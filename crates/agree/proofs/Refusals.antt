@@ -9,7 +9,7 @@ use native.Mathlib.Nat.{zero-add}
 use native.Mathlib.Omega.{arith}
 use native.Mathlib.Decide.{dec_lt}
 use mathlib.Core.List.{List, []}
-use lib.ListN.{get_or}
+use lib.ListN.{get_or, length}
 use lib.Dec.{ltb}
 use Rattle.lists.specs.Lists.{Lowest}
 use Rattle.lists.proofs.Lists.{not_some}
@@ -22,12 +22,11 @@ use Rattle.checks.specs.Checks.{admission}
 use Rattle.checks.specs.Given.{conditions, GivenBy}
 use Rattle.checks.proofs.Given.{given-iff}
 use Rattle.graphs.specs.declared.Built.TheVariants as B
-use Rattle.graphs.specs.Build.{refusal, refused, build}
+use Rattle.graphs.specs.Build.{Result, refusal, refused, accepted, build}
 use Rattle.graphs.specs.Given.{GivenBuild}
-use Rattle.graphs.proofs.Given.{given-build, given-build-only}
+use Rattle.graphs.proofs.Given.{given-build, given-build-only, accepted-when}
 use Rattle.graphs.proofs.Records.{collect-at}
-use Rattle.graphs.proofs.Tables.{when-refused}
-use Rattle.graphs.proofs.Answers.{build-refused, build-answered}
+use Rattle.graphs.proofs.Tables.{when-refused, when-accepted}
 use Rattle.runs.specs.declared.Ended.{Ended}
 use Rattle.runs.specs.declared.Ended.TheVariants as E
 use Rattle.runs.specs.Run.{Stand, bad_threads, Bad, first_bad, threads_refused, end_of}
@@ -39,20 +38,38 @@ use Rattle.agree.specs.Demands.{Demand1, GivenRun, Demand1Buffered, Demand1Gener
 
 -- The builder.
 
-zeros-when : (m : ℕ) (t : List ℕ) (nodes edges : ℕ) (r : Refusal) → refusal m t nodes edges ≡ some r → ((build m t nodes edges).nodes ≡ zeros nodes) × ((build m t nodes edges).edges ≡ zeros edges)
-unfolding refused
-zeros-when m t nodes edges r e = rw (when-refused m t nodes edges r e) (refl, refl)
+module _ (m : ℕ) (t : List ℕ) (nodes edges : ℕ) where
+  built-when : refusal m t nodes edges ≡ none → (n : ℕ) × (e : ℕ) × ((build m t nodes edges).answer ≡ B.Graph n e)
+  unfolding accepted
+  built-when e =
+      let a = accepted-when m t nodes edges e in
+      (length a.graph.nodes, length a.graph.edges, ap (λ (b : Result). b.answer) (when-accepted m t nodes edges a e))
+
+  refused-when : (r : Refusal) → refusal m t nodes edges ≡ some r → (build m t nodes edges).answer ≡ B.Refused r
+  unfolding refused
+  refused-when r e = ap (λ (b : Result). b.answer) (when-refused m t nodes edges r e)
+
+  when-answered : (r : Refusal) → (build m t nodes edges).answer ≡ B.Refused r → refusal m t nodes edges ≡ some r
+  when-answered r h = go (refusal m t nodes edges) refl
+    where
+      go : (o : Option Refusal) → refusal m t nodes edges ≡ o → refusal m t nodes edges ≡ some r
+      go none e = let b = built-when e in let g = b.2 in cc
+      go (some q) e = let f = refused-when q e in cc
+
+  zeros-when : (r : Refusal) → refusal m t nodes edges ≡ some r → ((build m t nodes edges).nodes ≡ zeros nodes) × ((build m t nodes edges).edges ≡ zeros edges)
+  unfolding refused
+  zeros-when r e = rw (when-refused m t nodes edges r e) (refl, refl)
 
 pub demand1 : (m : ℕ) (t : List ℕ) (nodes edges : ℕ) → Demand1 m t nodes edges
 demand1 m t nodes edges = record {
-  refused = λ r. Iff.trans (build-refused m t nodes edges r) (given-build m t nodes edges r);
+  refused = λ r. Iff.trans (when-answered m t nodes edges r, refused-when m t nodes edges r) (given-build m t nodes edges r);
   one = given-build-only m t nodes edges;
   zeroed = λ r g. zeros-when m t nodes edges r ((given-build m t nodes edges r).1 g);
   built = λ n. go n (refusal m t nodes edges) refl;
 }
   where
     go : ((r : Refusal) → GivenBuild m t nodes edges r → ⊥) → (o : Option Refusal) → refusal m t nodes edges ≡ o → (n : ℕ) × (e : ℕ) × ((build m t nodes edges).answer ≡ B.Graph n e)
-    go n none e = build-answered m t nodes edges e
+    go n none e = built-when m t nodes edges e
     go n (some r) e = absurd (n r ((given-build m t nodes edges r).0 e))
 
 -- The threads of a run, by any refusal of each.

@@ -14,8 +14,7 @@ use Rattle.graphs.specs.Graph.{Standing, begin, edges_of}
 use Rattle.graphs.specs.Build.{refusal, build, build_answer}
 use Rattle.graphs.specs.Records.{node_at}
 use Rattle.graphs.proofs.Given.{Accepted, accepted-when}
-use Rattle.graphs.proofs.Tables.{reads}
-use Rattle.graphs.proofs.Answers.{number_by}
+use Rattle.graphs.proofs.Tables.{number_by, reads}
 use Rattle.runs.specs.Run.{In, Stand, items, run, threads_refused, end_of, run_answer}
 use Rattle.runs.specs.Start.{Start, table_of, start_world}
 use Rattle.runs.specs.Shown.{ShownThread, nobody, shown_state}
@@ -130,7 +129,12 @@ module _ (s : Start) (rooms : Rooms) (free : (t : ℕ) → t < s.count → threa
       let tab : List ℕ = table_of s t in
       let nr : ℕ = node_room rooms t in
       let er : ℕ = edge_room rooms t in
-      same-standing (instr_at tab) (nodes_of m tab nr er) (build m tab nr er).nodes a ((reads m tab nr er g.free).nodes a.node.0 g.known)
+      let ac : Accepted m tab nr er = accepted-when m tab nr er g.free in
+      let ns : nodes_of m tab nr er ≡ ac.graph.nodes = nodes-are m tab nr er ac in
+      let lt : a.node.0 < length ac.graph.nodes = subst (λ (l : List Standing). a.node.0 < length l) ns g.known in
+      let n : Standing = get_or ac.graph.nodes a.node.0 begin in
+      let p : node_at (build m tab nr er).nodes a.node ≡ n = (reads m tab nr er ac g.free).nodes a.node.0 lt in
+      same-standing (instr_at tab) (nodes_of m tab nr er) (build m tab nr er).nodes a (p ∙ ap (λ (l : List Standing). get_or l a.node.0 begin) (sym ns))
 
   -- the two results, where no thread is refused
   pub buffered-result : threads_refused (λ t. admission s.model (table_of s t)) s.count ≡ none → run_buffered s ≡ result_buffered (stand_buffered s)

@@ -14,6 +14,7 @@ pub enum Number {
 const MOST: u64 = 4294967295;
 
 // the number that these digits say, if they are digits and it is not too large
+#[tactic(auto, unfolding(crate::specs::Number::number_or))]
 fn digits(bytes: &[u8]) -> Number
     ensures { result ≡ number_or (read_from 0 bytes.now) }
 {
@@ -37,6 +38,7 @@ fn digits(bytes: &[u8]) -> Number
 }
 
 // "without leading zeros (0 itself is `0`)"
+#[tactic(auto, unfolding(crate::specs::Number::number_or))]
 pub fn read(bytes: &[u8]) -> Number
     ensures { result ≡ number_or (read_number bytes.now) }
 {

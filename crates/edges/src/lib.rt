@@ -29,6 +29,7 @@ pub enum Named {
 }
 
 // the operation by its number, with its fields
+#[tactic(auto, unfolding(thread::specs::Operation::op_named))]
 pub fn op_named(o: u32, a: u32, b: u32, c: u32, d: u32) -> Named
     ensures { result ≡ named (op_named o a b c d) }
 {
@@ -51,6 +52,7 @@ pub fn op_named(o: u32, a: u32, b: u32, c: u32, d: u32) -> Named
 }
 
 // whether an operation's registers, variables and lines are there
+#[tactic(auto, unfolding(thread::specs::Operation::in_range))]
 pub fn in_range(op: Op) -> bool
     ensures { result ≡ in_range op }
 {
@@ -88,6 +90,7 @@ pub fn op_of(o: u32, a: u32, b: u32, c: u32, d: u32) -> Named
 }
 
 // the choice that an operation serves: 1 + x for a put to x, 0 for every other
+#[tactic(auto, unfolding(generated::specs::Machine::choice_of))]
 pub fn choice_of(op: Op) -> u64
     ensures { result ≡ choice_of op }
 {
@@ -98,6 +101,7 @@ pub fn choice_of(op: Op) -> u64
 }
 
 // whether the test of an operation holds, for one that has a test
+#[tactic(auto, unfolding(generated::specs::Machine::test_holds))]
 pub fn test_holds(registers: &[u32], op: Op) -> bool
     ensures { result ≡ test_holds registers.now op }
 {

@@ -16,7 +16,7 @@ use Rattle.thread.specs.Numbers.{◌!◌}
 use Rattle.thread.specs.Table.{line}
 use Rattle.graphs.specs.declared.Edge.{Edge}
 use Rattle.graphs.specs.Records.{node, edge_at, edges_in, records_in}
-use Rattle.generated.specs.Machine.{choice_of, test_holds, serves, same_node, edge_for, generated_step, follow}
+use Rattle.generated.specs.Machine.{choice_of, test_holds, serves, same_node, edge_for, generated_step}
 use Rattle.generated.specs.declared.Generated.{Generated}
 use Rattle.runs.specs.Run.{back, takes}
 use Rattle.edges.specs.declared.Named.{Named}

@@ -1,12 +1,12 @@
 -- "A graph is handed on as a lent table of edge records": the step of a generated thread along a list of edges, and a machine of several threads moved by it.
 use Rattle.std.specs.Prelude.{true, false, ℕ, ◌+◌, List, [], ◌∷◌, ◌++◌, get_or, drop}
-use Rattle.std.proofs.Math.Option.{Option, none, some, map, bind}
+use Rattle.std.proofs.Math.Option.{Option, none, some, map}
 use Rattle.std.proofs.Math.ListN.{get_elem?}
 use Rattle.thread.specs.declared.Node.{Node}
 use Rattle.thread.specs.declared.Op.TheVariants as O
 use Rattle.thread.specs.Sizes.{registers, most_lines}
 use Rattle.thread.specs.Numbers.{zeros}
-use Rattle.runs.specs.Run.{In, World, back, takes, move}
+use Rattle.runs.specs.Run.{In, World, takes, move}
 use Rattle.graphs.specs.declared.Edge.{Edge}
 use Rattle.graphs.specs.Records.{node}
 use Rattle.generated.specs.declared.Generated.{Generated}
@@ -65,8 +65,8 @@ unfolding move step_along next_for
 item_done m edges t c = next_for (move (along_own edges) (record { thread = t; choice = some c }) (world_of m)) m
 
 -- `stepped` in two parts: an edge is found for thread t, if it is there; then it goes along it
-abbrev pub field_own : Machine → ℕ → Option Generated
-field_own m t = get_elem? (world_of m).threads t
+abbrev pub own_at : Machine → ℕ → Option Generated
+own_at m t = get_elem? (world_of m).threads t
 
 abbrev pub or_nobody : Option Generated → Generated
 or_nobody none = record { node = node 0; registers = zeros registers; auxiliaries = zeros most_lines }

@@ -73,6 +73,7 @@ fn value(values: &[u32], i: u32) -> u32
 }
 
 // what an operation changes on the way to a node
+#[tactic(auto, unfolding(crate::specs::Step::change_of))]
 pub fn change_of(op: Op, to: Node, memory: &[u32], registers: &[u32], auxiliaries: &[u32]) -> Change
     ensures { result ≡ change_of op to memory.now registers.now auxiliaries.now }
 {
@@ -109,6 +110,7 @@ pub fn change_of(op: Op, to: Node, memory: &[u32], registers: &[u32], auxiliarie
 }
 
 // what changes along an edge, if one was found
+#[tactic(auto, unfolding(crate::specs::Step::change_along))]
 pub fn change_along(found: Taken, memory: &[u32], registers: &[u32], auxiliaries: &[u32]) -> Change
     ensures { result ≡ change_along found memory.now registers.now auxiliaries.now }
 {
@@ -120,6 +122,7 @@ pub fn change_along(found: Taken, memory: &[u32], registers: &[u32], auxiliaries
 }
 
 // what a choice changes, by the records of an edge table
+#[tactic(auto, unfolding(crate::specs::Step::decided))]
 pub fn decide(table: &[u32], choice: u32, memory: [u32; 16], own: Generated) -> Change
     ensures { result ≡ decided table.now choice memory own }
 {
@@ -130,6 +133,7 @@ pub fn decide(table: &[u32], choice: u32, memory: [u32; 16], own: Generated) -> 
 }
 
 // the same by the search for tables in the order of their nodes, of a thread whose values are lent
+#[tactic(auto, unfolding(crate::specs::Step::decided_sought))]
 pub fn decide_in(
     table: &[u32],
     choice: u32,
@@ -145,6 +149,7 @@ pub fn decide_in(
 }
 
 // a change applied where the values lie
+#[tactic(auto, unfolding(crate::specs::Step::applied))]
 pub fn apply_in(
     change: Change,
     node: Node,
@@ -211,6 +216,7 @@ pub fn step(table: &[u32], choice: u32, memory: [u32; 16], own: Generated) -> Mo
 }
 
 // the step by the search for tables in the order of their nodes, done where the values lie
+#[tactic(auto, unfolding(crate::specs::Step::searched))]
 pub fn step_in(
     table: &[u32],
     choice: u32,
@@ -226,6 +232,7 @@ pub fn step_in(
 }
 
 // the same by value
+#[tactic(auto, unfolding(crate::specs::Step::searched))]
 pub fn step_sought(table: &[u32], choice: u32, memory: [u32; 16], own: Generated) -> Moved
     ensures { result ≡ searched table.now choice memory own }
 {

@@ -47,9 +47,9 @@ module _ (line : List ℕ) (at : ℕ) where
     field-not p = rw (lt-true at (length line) h, not-number (read_number (take (run tab (drop (at + 1) line)) (drop (at + 1) line))) (said ∙ p))
 
 -- a field and the fields behind it
-field_in : (line : List ℕ) (at : ℕ) → at < length line → field_at line at ≡ field_in (drop (at + 1) line) (at + 1)
+field-in : (line : List ℕ) (at : ℕ) → at < length line → field_at line at ≡ field_in (drop (at + 1) line) (at + 1)
 unfolding field_at
-field_in line at h = rw (lt-true at (length line) h)
+field-in line at h = rw (lt-true at (length line) h)
 
 field_past : (line : List ℕ) (at : ℕ) → length line ≤ at → field_at line at ≡ F.Not
 unfolding field_at
@@ -77,7 +77,7 @@ module _ (line : List ℕ) (at n : ℕ) where
       go : Dec (at < length line) → read_fields (suc n) (left line at) ≡ none
       go (yes h) =
           let rest = drop (at + 1) line in
-          let o : read_number (take (run tab rest) rest) ≡ none = or-not (read_number (take (run tab rest) rest)) (at + 1 + run tab rest) (sym (field_in line at h) ∙ q) in
+          let o : read_number (take (run tab rest) rest) ≡ none = or-not (read_number (take (run tab rest) rest)) (at + 1 + run tab rest) (sym (field-in line at h) ∙ q) in
           rw (left_cut line at h) (rw o)
       go (no h) = rw (left-none line at (omega arith))
 
@@ -93,7 +93,7 @@ module _ (line : List ℕ) (at n : ℕ) where
       go : Dec (at < length line) → Goes v e
       go (yes h) =
           let rest = drop (at + 1) line in
-          let o : (read_number (take (run tab rest) rest) ≡ some v) × (at + 1 + run tab rest ≡ e) = or_is (read_number (take (run tab rest) rest)) (at + 1 + run tab rest) v e (sym (field_in line at h) ∙ q) in
+          let o : (read_number (take (run tab rest) rest) ≡ some v) × (at + 1 + run tab rest ≡ e) = or_is (read_number (take (run tab rest) rest)) (at + 1 + run tab rest) v e (sym (field-in line at h) ∙ q) in
           record { more = rw (left_cut line at h) (rw (o.0, o.1)); within = omega (arith, run-le tab rest, length-drop (at + 1) line, o.1) }
       go (no h) =
           let z : ◌≡◌ {A = Field} F.Not (F.Is v e) = sym (field_past line at (omega arith)) ∙ q in

@@ -65,6 +65,7 @@ fn same(a: &[u8], b: &[u8]) -> bool
 }
 
 // the kind that a name names, or 12
+#[tactic(auto, unfolding(thread::specs::Names::instr_names, crate::specs::Reading::name_at))]
 fn kind_of(name: &[u8]) -> u32
     ensures { result ≡ name_at name.now instr_names }
 {
@@ -90,6 +91,7 @@ fn kind_of(name: &[u8]) -> u32
 }
 
 // the same of the kinds from 6 on
+#[tactic(auto, unfolding(thread::specs::Names::instr_names, crate::specs::Reading::name_at))]
 fn later_kind(name: &[u8]) -> u32
     ensures { result ≡ 6 + name_at name.now (drop 6 instr_names) }
 {
@@ -115,6 +117,7 @@ fn later_kind(name: &[u8]) -> u32
 }
 
 // the model that a name names, or 2
+#[tactic(auto, unfolding(thread::specs::Names::model_names, crate::specs::Reading::name_at))]
 fn model_of(name: &[u8]) -> u32
     ensures { result ≡ name_at name.now model_names }
 {
