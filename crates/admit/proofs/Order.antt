@@ -96,9 +96,9 @@ module _ (m : ℕ) (t : List ℕ) where
   unfolding bad_model when
   good-model h = rw (lt-false 1 m h)
 
-  no_lines : length t ≡ 0 → no_lines t ≡ some R.NoLines
+  no-lines : length t ≡ 0 → no_lines t ≡ some R.NoLines
   unfolding no_lines when
-  no_lines h = rw h
+  no-lines h = rw h
 
   some_lines : length t ≢ 0 → no_lines t ≡ none
   unfolding no_lines when
@@ -127,7 +127,7 @@ module _ (m : ℕ) (t : List ℕ) where
   module _ (model : m ≤ 1) where
     pub at-3 : length t ≡ 0 → Refused R.NoLines ≡ answered
     unfolding admission first_of answer
-    at-3 h = rw (good-model model, no_lines h)
+    at-3 h = rw (good-model model, no-lines h)
 
     module _ (filled : length t ≢ 0) where
       pub at-4 : most < length t → Refused R.TooManyLines ≡ answered

@@ -15,6 +15,7 @@ use thread::{
 };
 
 // model 0 is TSO; another that is admitted is PSO
+#[tactic(auto, unfolding(checks::specs::Checks::model_of))]
 pub fn model_of(model: u32) -> Model
     ensures { result ≡ model_of model }
 {
@@ -42,6 +43,7 @@ fn all(a: bool, b: bool, c: bool, d: bool) -> bool
 }
 
 // "kind above 11, register or variable above 15, unused field not 0": none of these
+#[tactic(auto, unfolding(thread::specs::Table::fields_of, checks::specs::Checks::good_fields))]
 fn good_fields(kind: u32, a: u32, b: u32, c: u32, d: u32) -> bool
     ensures { result ≡ (leb kind 11 && good_fields (fields_of kind) (a ∷ b ∷ c ∷ d ∷ [])) }
 {
@@ -110,6 +112,7 @@ fn too_many_stores(table: &[u32], n: u32) -> Admission
 }
 
 // "target at or beyond the line count"
+#[tactic(auto, unfolding(checks::specs::Checks::wrong_target))]
 fn wrong_target(n: u32, instr: Instr) -> bool
     ensures { result ≡ wrong_target n instr }
 {
@@ -136,6 +139,7 @@ fn bad_target(table: &[u32], n: u32) -> Admission
 }
 
 // neither jump nor return
+#[tactic(auto, unfolding(checks::specs::Checks::goes_on))]
 fn goes_on(instr: Instr) -> bool
     ensures { result ≡ goes_on instr }
 {
@@ -159,6 +163,7 @@ fn no_next(table: &[u32], n: u32) -> Admission
 }
 
 // fence or cas
+#[tactic(auto, unfolding(checks::specs::Lines::drains))]
 fn drains(instr: Instr) -> bool
     ensures { result ≡ drains_at instr }
 {
@@ -288,6 +293,7 @@ fn unfenced_loop(table: &[u32], n: u32) -> Admission
     Admission::Accepted
 }
 
+#[tactic(auto, unfolding(crate::specs::Answer::first_refused))]
 fn first_refused(a: Admission, b: Admission) -> Admission
     ensures { result ≡ first_refused a b }
 {

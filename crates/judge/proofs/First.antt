@@ -1,6 +1,9 @@
 -- The first thread that is refused, thread by thread, as the code finds it.
 use mathlib.Core.Path.{◌≡◌, refl, ap, ◌∙◌}
 use mathlib.Core.Option.{Option, none, some}
+use mathlib.Core.List.{List, [], ◌∷◌}
+use lib.ListN.{get_or}
+use Rattle.checks.specs.Checks.{admission}
 use Prim.Native.Nat.{ℕ, suc, ◌+◌, ◌-◌, ◌≤◌, ◌<◌}
 use native.Mathlib.Numerals.{add-one}
 use native.Mathlib.Omega.{arith}
@@ -15,6 +18,10 @@ use Rattle.admit.specs.Answer.{answer}
 use Rattle.judge.specs.declared.Judged.{Judged}
 use Rattle.judge.specs.declared.Judged.TheVariants as J
 use Rattle.judge.specs.Answers.{judged}
+
+-- 2 to 10 of each of four threads
+abbrev pub refusals : ℕ → List ℕ → List ℕ → List ℕ → List ℕ → ℕ → Option Refusal
+refusals model t0 t1 t2 t3 t = admission model (get_or (t0 ∷ t1 ∷ t2 ∷ t3 ∷ []) t [])
 
 was-refused : (o : Option Refusal) (a : Admission) (r : Refusal) → a ≡ answer o → a ≡ A.Refused r → o ≡ some r
 unfolding answer

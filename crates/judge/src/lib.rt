@@ -31,6 +31,7 @@ fn admit_thread(model: u32, t0: &[u32], t1: &[u32], t2: &[u32], t3: &[u32], t: u
 }
 
 // "thread by thread": the first that is refused
+#[tactic(auto, unfolding(crate::specs::Answers::judged))]
 fn first_bad(model: u32, threads: u32, t0: &[u32], t1: &[u32], t2: &[u32], t3: &[u32]) -> Judged
     requires { threads ≤ 4 }
     ensures { result ≡ judged (first_bad (λ t. admission model (get_or (t0.now ∷ t1.now ∷ t2.now ∷ t3.now ∷ []) t [])) 0 threads) }
@@ -47,6 +48,7 @@ fn first_bad(model: u32, threads: u32, t0: &[u32], t1: &[u32], t2: &[u32], t3: &
 }
 
 // 14, then 2 to 10
+#[tactic(auto, unfolding(crate::specs::Answers::judged))]
 pub fn judge(model: u32, threads: u32, t0: &[u32], t1: &[u32], t2: &[u32], t3: &[u32]) -> Judged
     ensures { result ≡ judged (threads_refused (λ t. admission model (get_or (t0.now ∷ t1.now ∷ t2.now ∷ t3.now ∷ []) t [])) threads) }
 {

@@ -58,16 +58,16 @@ module _ (t : List ℕ) (n : ℕ) where
       go ih at (no s) (yes r) = let e : a ≡ j = omega arith in rw e (at r (omega arith)).0
       go ih at (no s) (no r) = let e : a ≡ j = omega arith in let d : b ≡ j = omega arith in rw (e, d) (omega arith)
 
-  edges_fit : (x low j : ℕ) → ((i : ℕ) → j ≤ i → i < j + x → low ≤ from_of t i) → ((i : ℕ) → j ≤ i → i < j + x → from_of t i < n)
+  edges-fit : (x low j : ℕ) → ((i : ℕ) → j ≤ i → i < j + x → low ≤ from_of t i) → ((i : ℕ) → j ≤ i → i < j + x → from_of t i < n)
       → ((i : ℕ) → j ≤ i → i < j + x → op_of t i ≤ most_op) → ((a b : ℕ) → j ≤ a → a ≤ b → b < j + x → from_of t a ≤ from_of t b)
       → T (edges_fit t n low (up_from j x))
   unfolding edges_fit up_from
-  edges_fit zero low j l f o r = tt
-  edges_fit (suc x) low j l f o r =
+  edges-fit zero low j l f o r = tt
+  edges-fit (suc x) low j l f o r =
       let rest : Bool = edges_fit t n (from_of t j) (up_from (suc j) x) in
       let h : j < j + suc x = omega arith in
       let ih : T rest =
-      edges_fit x (from_of t j) (suc j) (λ i a b. r j i (omega arith) (omega arith) (omega arith)) (λ i a b. f i (omega arith) (omega arith))
+      edges-fit x (from_of t j) (suc j) (λ i a b. r j i (omega arith) (omega arith) (omega arith)) (λ i a b. f i (omega arith) (omega arith))
       (λ i a b. o i (omega arith) (omega arith)) (λ a b g k h. r a b (omega arith) k (omega arith)) in
       and_T (leb low (from_of t j)) (ltb (from_of t j) n && (leb (op_of t j) most_op && rest)) (le→leb low (from_of t j) (l j (omega arith) h))
       (and_T (ltb (from_of t j) n) (leb (op_of t j) most_op && rest) (lt→ltb (from_of t j) n (f j (omega arith) h))
@@ -101,11 +101,11 @@ module _ (model n m : ℕ) (nt et : List ℕ) where
       (and_T (leb (18 * n) (length nt)) (leb (7 * m) (length et) && last) (le→leb (18 * n) (length nt) g.nodes)
       (and_T (leb (7 * m) (length et)) last (le→leb (7 * m) (length et) g.edges)
       (and_T (nodes_fit nt (up_from 0 n)) (edges_fit et n 0 (up_from 0 m)) (counts-fit nt n 0 (λ i a b. g.counts i (omega arith)))
-      (edges_fit et n m 0 0 (λ i a b. omega arith) (λ i a b. g.froms i (omega arith)) (λ i a b. g.ops i (omega arith))
+      (edges-fit et n m 0 0 (λ i a b. omega arith) (λ i a b. g.froms i (omega arith)) (λ i a b. g.ops i (omega arith))
       (λ a b c h k. g.order a b h (omega arith))))))
 
   pub is-graph : T (is_graph model n m nt et) ↔ IsGraph model n m nt et
   is-graph = (to-words, from-words)
 
   pub words-fit : IsGraph model n m nt et → EdgesFit et n 0 (up_from 0 m)
-  words-fit g = edges-statement et n 0 (up_from 0 m) (edges_fit et n m 0 0 (λ i a b. omega arith) (λ i a b. g.froms i (omega arith)) (λ i a b. g.ops i (omega arith)) (λ a b c h k. g.order a b h (omega arith)))
+  words-fit g = edges-statement et n 0 (up_from 0 m) (edges-fit et n m 0 0 (λ i a b. omega arith) (λ i a b. g.froms i (omega arith)) (λ i a b. g.ops i (omega arith)) (λ a b c h k. g.order a b h (omega arith)))
