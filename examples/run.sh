@@ -8,8 +8,9 @@ set -eu
 here=$(cd "$(dirname "$0")" && pwd)
 root=$(dirname "$here")
 if [ $# = 0 ]; then
-    (cd "$root" && rt staticlib nardiplex > /dev/null)
-    set -- "$root/target/staticlib/libnardiplex.a"
+    library=$("$root/library")
+    # shellcheck disable=SC2086
+    set -- $library
 fi
 out=$root/target/examples
 mkdir -p "$out"

@@ -4,7 +4,7 @@
 # as pointer.
 here=$(cd "$(dirname "$0")" && pwd)
 header=$here/../include/nardiplex.h
-source=$here/../crates/nardiplex/src/lib.rt
+source=$here/../crates/nardiplex_c/src/lib.rt
 strict="-pedantic -Wall -Wextra -Werror -fsyntax-only -I$here/../include"
 # shellcheck disable=SC2086
 cc -std=c99 $strict -x c "$here/c/header.c" && c++ -std=c++11 $strict -x c++ "$here/c/header.c" || exit 1

@@ -15,8 +15,9 @@ flags=
 seconds=${1:-0.5}
 [ $# = 0 ] || shift
 if [ $# = 0 ]; then
-    (cd "$root" && rt staticlib nardiplex > /dev/null)
-    set -- "$root/target/staticlib/libnardiplex.a"
+    library=$("$root/library")
+    # shellcheck disable=SC2086
+    set -- $library
 fi
 for file; do
     flags="$flags -C link-arg=$file"

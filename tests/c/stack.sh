@@ -6,8 +6,9 @@ set -eu
 here=$(cd "$(dirname "$0")" && pwd)
 root=$(dirname "$(dirname "$here")")
 if [ $# = 0 ]; then
-    (cd "$root" && rt staticlib nardiplex > /dev/null)
-    set -- "$root/target/staticlib/libnardiplex.a"
+    library=$("$root/library")
+    # shellcheck disable=SC2086
+    set -- $library
 fi
 mkdir -p "$root/target/c"
 # Bound at the start: the first call of memcpy would else bind it, on this stack.

@@ -142,3 +142,6 @@ module _ (m : ℕ) (t : List ℕ) where
         pub from-6 : length t % line_width ≡ 0 → answer (first_of (line_checks t)) ≡ answered
         unfolding admission first_of
         from-6 h = rw (good-model model, some_lines filled, few-enough few, whole h)
+
+-- 2 to 4, for a search
+pub ruleset early = (at-2, at-3, at-4)

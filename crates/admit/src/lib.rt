@@ -320,6 +320,7 @@ fn judge_lines(table: &[u32], n: u32) -> Admission
 }
 
 // 2 to 10, lowest number first
+#[tactic(auto, using(crate::proofs::Order::early))]
 pub fn admit(model: u32, table: &[u32]) -> Admission
     ensures { result ≡ answer (admission model table.now) }
 {

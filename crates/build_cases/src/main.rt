@@ -5,26 +5,20 @@ ghost use Rattle.std.specs.Prelude.{◌≤◌};
 
 use builder::build;
 use graphs::Built;
+use std::io;
 use thread::{number_of, place_of};
 
-fn print(number: u64, place: u64, nodes: u64, edges: u64) {
-    io::print_decimal(1, number);
-    io::write_all(1, b"\t");
-    io::print_decimal(1, place);
-    io::write_all(1, b"\t");
-    io::print_decimal(1, nodes);
-    io::write_all(1, b"\t");
-    io::print_decimal(1, edges);
-    io::write_all(1, b"\n");
+fn print(rt: &impl Print, number: u64, place: u64, nodes: u64, edges: u64) -> io::Result<()> {
+    println!(rt; "{number}\t{place}\t{nodes}\t{edges}")
 }
 
 // in room for 4,096 nodes and 30,000 edges, filled with ones
-fn show(model: u32, table: &[u32]) {
+fn show(rt: &impl Print, model: u32, table: &[u32]) -> io::Result<()> {
     let mut nodes = [1u32; 73728];
     let mut edges = [1u32; 210000];
     match build(model, table, &mut nodes, &mut edges) {
-        Built::Graph(n, e) => print(0, 0, n as u64, e as u64),
-        Built::Refused(refusal) => print(number_of(refusal), place_of(refusal), 0, 0),
+        Built::Graph(n, e) => print(rt, 0, 0, n as u64, e as u64),
+        Built::Refused(refusal) => print(rt, number_of(refusal), place_of(refusal), 0, 0),
     }
 }
 
@@ -63,28 +57,29 @@ fn fenced(table: &mut [u32], stores: usize)
 }
 
 // a table of zeros is lines that set register 0 to 0
-fn main() {
+fn main(rt: HostRuntime) -> io::Result<()> {
     let mut stores = [0u32; 60];
     eleven(&mut stores, 0);
-    show(1, &stores);
+    show(&rt, 1, &stores)?;
     let mut one_set = [0u32; 65];
     eleven(&mut one_set, 1);
-    show(1, &one_set);
+    show(&rt, 1, &one_set)?;
     let mut two_sets = [0u32; 70];
     eleven(&mut two_sets, 2);
-    show(1, &two_sets);
+    show(&rt, 1, &two_sets)?;
     let mut lines_64 = [0u32; 320];
     put(&mut lines_64, 63, 11, 0);
-    show(0, &lines_64);
-    show(1, &lines_64);
+    show(&rt, 0, &lines_64)?;
+    show(&rt, 1, &lines_64)?;
     let mut lines_65 = [0u32; 325];
     put(&mut lines_65, 64, 11, 0);
-    show(0, &lines_65);
+    show(&rt, 0, &lines_65)?;
     let mut stores_16 = [0u32; 165];
     fenced(&mut stores_16, 16);
-    show(0, &stores_16);
-    show(1, &stores_16);
+    show(&rt, 0, &stores_16)?;
+    show(&rt, 1, &stores_16)?;
     let mut stores_17 = [0u32; 175];
     fenced(&mut stores_17, 17);
-    show(0, &stores_17);
+    show(&rt, 0, &stores_17)?;
+    Ok(())
 }

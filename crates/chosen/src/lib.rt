@@ -21,6 +21,7 @@ pub enum Change {
     Put(usize),
 }
 
+#[tactic(auto, unfolding(crate::specs::Decide::following))]
 fn following_line(l: Line) -> Line
     ensures { result ≡ following l }
 {
@@ -44,6 +45,7 @@ fn seen(count: u32, memory: &[u32], names: &[u32], values: &[u32], x: u32) -> u3
 }
 
 // the program step
+#[tactic(auto, unfolding(crate::specs::Decide::program_change, crate::specs::Decide::seen_by))]
 fn program_change(
     instr: Instr,
     line: Line,

@@ -2,13 +2,12 @@
 use mathlib.Core.Path.{◌≡◌, refl, sym, ap, ◌∙◌}
 use mathlib.Core.Bool.{Bool, true, false}
 use mathlib.Core.Option.{Option, none, some, Option-elim}
-use Prim.Native.Nat.{ℕ, zero, suc, ◌+◌, ◌*◌}
+use Prim.Native.Nat.{ℕ, ◌+◌}
 use native.Mathlib.Omega.{arith}
 use mathlib.Core.List.{List, [], ◌∷◌, ◌++◌}
 use lib.ListN.{length, get_or, take, drop, length-drop, take-append-drop}
 use lib.Seq.{take_all, drop-drop}
 use Rattle.thread.specs.Numbers.{◌!◌}
-use Rattle.graphs.specs.Records.{node}
 use Rattle.runs.specs.Run.{World}
 use Rattle.generated.specs.declared.Generated.{Generated}
 use Rattle.shown.specs.Ran.{world}

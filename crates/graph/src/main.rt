@@ -1,13 +1,32 @@
 // Reads a thread's text from standard input and prints its graph, or why it is refused.
 #![tactic(auto)]
 
+ghost use Rattle.std.specs.Prelude.{◌≤◌, length, IfOk};
+
 use printed::Printed;
 use show::show;
+use std::io;
+use std::io::Read;
 
-fn main() {
+// what is to be read, as much of it as the buffer has room for
+fn read_full(from: &mut impl Read, buffer: &mut [u8]) -> io::Result<usize>
+    ensures { IfOk result (λ n. n ≤ length buffer.new) }
+{
+    let mut n: usize = 0;
+    while n < buffer.len() {
+        let got = from.read(&mut buffer[n..])?;
+        if got == 0 {
+            break;
+        }
+        n += got;
+    }
+    Ok(n)
+}
+
+fn main(rt: HostRuntime) -> io::Result<()> {
     // one byte more than a text may have, so that a longer one is refused as such
     let mut text = [0u8; 4097];
-    let n = io::read_full(0, &mut text);
+    let n = read_full(&mut rt.stdin(), &mut text)?;
     let mut table = [0u32; 320];
     let mut nodes = [0u32; 7200];
     let mut edges = [0u32; 6300];
@@ -15,9 +34,10 @@ fn main() {
     match show(&text[..n], &mut table, &mut nodes, &mut edges, &mut area) {
         Printed::Written(len) => {
             if len <= 160000 {
-                io::write_all(1, &area[..len]);
+                rt.write_all(&area[..len])?;
             }
         }
         _ => {}
     }
+    Ok(())
 }

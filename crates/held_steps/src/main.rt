@@ -16,6 +16,7 @@ use pending::smaller;
 use run_generated::run_generated;
 use runs::Ended;
 use shown::ThreadState;
+use std::io;
 use thread::{Line, Node, number, number_of};
 
 // where a machine stands: how many items were done, and whether the next names no step
@@ -182,33 +183,34 @@ fn same(a: &[u64], b: &[u64]) -> bool {
 }
 
 // some numbers of a state, behind their name
-fn row(name: &[u8], state: &[u64], from: usize, end: usize) {
-    io::write_all(1, name);
+fn row(rt: &impl Print, name: &str, state: &[u64], from: usize, end: usize) -> io::Result<()> {
+    print!(rt; "{name}")?;
     let mut i = from;
     while i < smaller(end, state.len()) {
-        io::write_all(1, b"\t");
-        io::print_decimal(1, state[i]);
+        print!(rt; "\t{}", state[i])?;
         i += 1;
     }
-    io::write_all(1, b"\n");
+    println!(rt; "")
 }
 
-fn show_thread(state: &[u64], from: u32) {
+fn show_thread(rt: &impl Print, state: &[u64], from: u32) -> io::Result<()> {
     let at = from as usize;
-    row(b"line", state, at, at + 1);
-    row(b"registers", state, at + 2, at + 18);
-    row(b"waiting", state, at + 1, at + 2);
-    row(b"store lines", state, at + 18, at + 34);
-    row(b"values", state, at + 34, at + 50);
+    row(rt, "line", state, at, at + 1)?;
+    row(rt, "registers", state, at + 2, at + 18)?;
+    row(rt, "waiting", state, at + 1, at + 2)?;
+    row(rt, "store lines", state, at + 18, at + 34)?;
+    row(rt, "values", state, at + 34, at + 50)?;
+    Ok(())
 }
 
-fn show(name: &[u8], state: &[u64]) {
-    row(name, state, 0, 0);
-    row(b"ended", state, 0, 1);
-    row(b"steps", state, 1, 2);
-    row(b"memory", state, 2, 18);
-    show_thread(state, 18);
-    show_thread(state, 68);
+fn show(rt: &impl Print, name: &str, state: &[u64]) -> io::Result<()> {
+    row(rt, name, state, 0, 0)?;
+    row(rt, "ended", state, 0, 1)?;
+    row(rt, "steps", state, 1, 2)?;
+    row(rt, "memory", state, 2, 18)?;
+    show_thread(rt, state, 18)?;
+    show_thread(rt, state, 68)?;
+    Ok(())
 }
 
 // the schedule, carried out on a machine held here
@@ -262,30 +264,31 @@ fn run(model: u32, t0: &[u32], t1: &[u32], schedule: &[u32], state: &mut [u64]) 
     put_shown(state, 68, ran.threads[1]);
 }
 
-fn compare(model: u32, schedule: &[u32]) {
+fn compare(rt: &impl Print, model: u32, schedule: &[u32]) -> io::Result<()> {
     let angle = [6u32, 0, 7, 0, 0, 6, 1, 1, 0, 0, 11, 0, 0, 0, 0];
     let reader = [4u32, 0, 1, 0, 0, 4, 1, 0, 0, 0, 11, 0, 0, 0, 0];
     let mut by_hand = [0u64; 118];
     let mut by_run = [0u64; 118];
     hold(model, &angle, &reader, schedule, &mut by_hand);
     run(model, &angle, &reader, schedule, &mut by_run);
-    show(b"held", &by_hand);
-    show(b"run", &by_run);
+    show(rt, "held", &by_hand)?;
+    show(rt, "run", &by_run)?;
     if same(&by_hand, &by_run) {
-        io::write_all(1, b"the same\n");
+        println!(rt; "the same")
     } else {
-        io::write_all(1, b"different\n");
+        println!(rt; "different")
     }
 }
 
-fn main() {
+fn main(rt: HostRuntime) -> io::Result<()> {
     // the mark overtakes the angle under PSO; under TSO it can't
     let early = [0u32, 0, 0, 0, 0, 2, 1, 0, 1, 0, 0, 1];
-    compare(1, &early);
-    compare(0, &early);
+    compare(&rt, 1, &early)?;
+    compare(&rt, 0, &early)?;
     // a store that waits at the end
-    compare(0, &[0u32, 0, 1, 0, 0, 0, 0, 1, 1, 0]);
+    compare(&rt, 0, &[0u32, 0, 1, 0, 0, 0, 0, 1, 1, 0])?;
     // a thread that isn't there, and a lone last number
-    compare(1, &[0u32, 0, 2, 0]);
-    compare(1, &[0u32, 0, 1]);
+    compare(&rt, 1, &[0u32, 0, 2, 0])?;
+    compare(&rt, 1, &[0u32, 0, 1])?;
+    Ok(())
 }

@@ -61,9 +61,13 @@ module _ (refusal : ℕ → Option Refusal) where
     unfolding threads_refused bad_threads
     no_threads e = rw (e, threads_refused)
 
-    pub many-threads : 4 < count → threads_refused refusal count ≡ some (record { thread = 0; refusal = R.BadThreads })
+    many-threads : 4 < count → threads_refused refusal count ≡ some (record { thread = 0; refusal = R.BadThreads })
     unfolding threads_refused bad_threads
     many-threads h = rw (eq-false count 0 (λ e. omega arith), lt-true most_threads count h, threads_refused)
+
+    pub many_told : 4 < count → J.Bad 0 R.BadThreads ≡ judged (threads_refused refusal count)
+    unfolding judged
+    many_told h = rw (many-threads h)
 
     pub right-threads : (count ≡ 0 → ⊥) → count ≤ 4 → threads_refused refusal count ≡ first_bad refusal 0 count
     unfolding threads_refused bad_threads

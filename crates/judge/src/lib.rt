@@ -48,7 +48,7 @@ fn first_bad(model: u32, threads: u32, t0: &[u32], t1: &[u32], t2: &[u32], t3: &
 }
 
 // 14, then 2 to 10
-#[tactic(auto, unfolding(crate::specs::Answers::judged))]
+#[tactic(auto, using(crate::proofs::First::many_told), unfolding(crate::specs::Answers::judged))]
 pub fn judge(model: u32, threads: u32, t0: &[u32], t1: &[u32], t2: &[u32], t3: &[u32]) -> Judged
     ensures { result ≡ judged (threads_refused (λ t. admission model (get_or (t0.now ∷ t1.now ∷ t2.now ∷ t3.now ∷ []) t [])) threads) }
 {

@@ -110,7 +110,6 @@ fn pass(ran: Ran, state: &mut [u32; 216], answer: &mut [u64; 4])
 }
 
 // reads a thread's text into a table
-#[unsafe(no_mangle)]
 pub extern "C" fn nardiplex_read(text: &[u8], table: &mut [u32], answer: &mut [u64; 4])
     ensures { ReadPassed text.now (length table.old) table.new answer.new }
 {
@@ -118,7 +117,6 @@ pub extern "C" fn nardiplex_read(text: &[u8], table: &mut [u32], answer: &mut [u
 }
 
 // builds a thread's graph into the lent rooms
-#[unsafe(no_mangle)]
 pub extern "C" fn nardiplex_build(
     model: u32,
     table: &[u32],
@@ -132,7 +130,6 @@ pub extern "C" fn nardiplex_build(
 }
 
 // runs buffered threads
-#[unsafe(no_mangle)]
 pub extern "C" fn nardiplex_run_buffered(
     model: u32,
     threads: u32,
@@ -155,7 +152,6 @@ pub extern "C" fn nardiplex_run_buffered(
 }
 
 // runs generated threads, whose graphs are built in the lent rooms
-#[unsafe(no_mangle)]
 pub extern "C" fn nardiplex_run_generated(
     model: u32,
     threads: u32,

@@ -4,47 +4,59 @@
 use run_buffered::run_buffered;
 use run_generated::run_generated;
 use runs::Ended;
+use std::io;
 use thread::{number_of, place_of};
 
-fn field(n: u64) {
-    io::print_decimal(1, n);
-    io::write_all(1, b"\t");
+fn field(rt: &impl Print, n: u64) -> io::Result<()> {
+    print!(rt; "{n}\t")
 }
 
-fn answer(ended: Ended) {
+fn answer(rt: &impl Print, ended: Ended) -> io::Result<()> {
     match ended {
         Ended::Done(steps) => {
-            field(0);
-            field(0);
-            field(0);
-            field(steps);
+            field(rt, 0)?;
+            field(rt, 0)?;
+            field(rt, 0)?;
+            field(rt, steps)?;
         }
         Ended::Refused(thread, refusal) => {
-            field(number_of(refusal));
-            field(place_of(refusal));
-            field(thread as u64);
-            field(0);
+            field(rt, number_of(refusal))?;
+            field(rt, place_of(refusal))?;
+            field(rt, thread as u64)?;
+            field(rt, 0)?;
         }
         Ended::Stopped(item) => {
-            field(15);
-            field(item);
-            field(0);
-            field(item);
+            field(rt, 15)?;
+            field(rt, item)?;
+            field(rt, 0)?;
+            field(rt, item)?;
         }
     }
+    Ok(())
 }
 
-fn state(memory: [u32; 16], first: [u32; 16], second: [u32; 16]) {
-    field(memory[0] as u64);
-    field(memory[1] as u64);
-    field(first[0] as u64);
-    field(first[1] as u64);
-    field(second[0] as u64);
-    field(second[1] as u64);
-    io::write_all(1, b"\n");
+fn state(
+    rt: &impl Print,
+    memory: [u32; 16],
+    first: [u32; 16],
+    second: [u32; 16],
+) -> io::Result<()> {
+    field(rt, memory[0] as u64)?;
+    field(rt, memory[1] as u64)?;
+    field(rt, first[0] as u64)?;
+    field(rt, first[1] as u64)?;
+    field(rt, second[0] as u64)?;
+    field(rt, second[1] as u64)?;
+    println!(rt; "")
 }
 
-fn buffered(model: u32, t0: &[u32], t1: &[u32], schedule: &[u32]) {
+fn buffered(
+    rt: &impl Print,
+    model: u32,
+    t0: &[u32],
+    t1: &[u32],
+    schedule: &[u32],
+) -> io::Result<()> {
     let r = run_buffered(model, 2, t0, t1, t1, t1, [0u32; 16], [0u32; 64], schedule);
     let ended = r.ended;
     let memory = r.memory;
@@ -52,11 +64,17 @@ fn buffered(model: u32, t0: &[u32], t1: &[u32], schedule: &[u32]) {
     let b = r.threads[1];
     let first = a.registers;
     let second = b.registers;
-    answer(ended);
-    state(memory, first, second);
+    answer(rt, ended)?;
+    state(rt, memory, first, second)
 }
 
-fn generated(model: u32, t0: &[u32], t1: &[u32], schedule: &[u32]) {
+fn generated(
+    rt: &impl Print,
+    model: u32,
+    t0: &[u32],
+    t1: &[u32],
+    schedule: &[u32],
+) -> io::Result<()> {
     let mut n0 = [9u32; 180];
     let mut e0 = [9u32; 70];
     let mut n1 = [9u32; 180];
@@ -75,24 +93,25 @@ fn generated(model: u32, t0: &[u32], t1: &[u32], schedule: &[u32]) {
     let b = r.threads[1];
     let first = a.registers;
     let second = b.registers;
-    answer(ended);
-    state(memory, first, second);
+    answer(rt, ended)?;
+    state(rt, memory, first, second)
 }
 
-fn both(model: u32, t0: &[u32], t1: &[u32], schedule: &[u32]) {
-    buffered(model, t0, t1, schedule);
-    generated(model, t0, t1, schedule);
+fn both(rt: &impl Print, model: u32, t0: &[u32], t1: &[u32], schedule: &[u32]) -> io::Result<()> {
+    buffered(rt, model, t0, t1, schedule)?;
+    generated(rt, model, t0, t1, schedule)
 }
 
-fn main() {
+fn main(rt: HostRuntime) -> io::Result<()> {
     let left = [6u32, 0, 1, 0, 0, 4, 0, 1, 0, 0, 11, 0, 0, 0, 0];
     let right = [6u32, 1, 1, 0, 0, 4, 0, 0, 0, 0, 11, 0, 0, 0, 0];
     let turns = [0u32, 0, 1, 0, 0, 0, 1, 0];
-    both(0, &left, &right, &turns);
-    both(1, &left, &right, &turns);
+    both(&rt, 0, &left, &right, &turns)?;
+    both(&rt, 1, &left, &right, &turns)?;
     let two = [6u32, 0, 7, 0, 0, 6, 1, 1, 0, 0, 11, 0, 0, 0, 0];
     let loads = [4u32, 0, 1, 0, 0, 4, 1, 0, 0, 0, 11, 0, 0, 0, 0];
     let early = [0u32, 0, 0, 0, 0, 2, 1, 0, 1, 0];
-    both(1, &two, &loads, &early);
-    both(0, &two, &loads, &early);
+    both(&rt, 1, &two, &loads, &early)?;
+    both(&rt, 0, &two, &loads, &early)?;
+    Ok(())
 }

@@ -1,10 +1,10 @@
 -- Places that a loop fills one by one: sixteen of a shown thread, and those of a room with zeros.
 use mathlib.Core.Path.{◌≡◌, sym, ap, ◌∙◌}
-use mathlib.Core.List.{List, [], ◌++◌, append-nil}
+use mathlib.Core.List.{List, append-nil}
 use Prim.Native.Nat.{ℕ, ◌+◌, ◌≤◌, ◌<◌}
 use native.Mathlib.Nat.{zero-add}
 use native.Mathlib.Omega.{arith}
-use lib.ListN.{length, set, take, drop, drop_of_length-le, length-replicate}
+use lib.ListN.{length, set, take, length-replicate}
 use lib.Seq.{paste, paste-zero, take_all}
 use Rattle.thread.specs.Numbers.{◌!◌, zeros}
 use Rattle.graphs.proofs.Records.{collect-length, collect-at}

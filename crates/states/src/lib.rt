@@ -33,6 +33,7 @@ fn value_at(auxiliaries: &[u32], nodes: &[u32], start: usize, count: u32, i: usi
     0
 }
 
+#[tactic(auto, unfolding(crate::specs::States::names))]
 fn names_at(nodes: &[u32], start: usize, count: u32) -> [u32; 16]
     requires { start + 16 < 2 ^ 64 }
     ensures { result ≡ names nodes.now start count }
@@ -46,6 +47,7 @@ fn names_at(nodes: &[u32], start: usize, count: u32) -> [u32; 16]
     shown
 }
 
+#[tactic(auto, unfolding(crate::specs::States::values))]
 fn values_at(auxiliaries: &[u32], nodes: &[u32], start: usize, count: u32) -> [u32; 16]
     requires { start + 16 < 2 ^ 64 }
     ensures { result ≡ values auxiliaries.now nodes.now start count }
@@ -60,6 +62,7 @@ fn values_at(auxiliaries: &[u32], nodes: &[u32], start: usize, count: u32) -> [u
 }
 
 // "a generated thread shows the store lines of its node with their auxiliary values"
+#[tactic(auto, unfolding(crate::specs::States::state_at))]
 fn state_at(table: &[u32], node: Node, registers: [u32; 16], auxiliaries: &[u32]) -> ThreadState
     ensures { result ≡ state_at table.now (held node registers auxiliaries.now) }
 {
@@ -77,6 +80,7 @@ fn state_at(table: &[u32], node: Node, registers: [u32; 16], auxiliaries: &[u32]
 }
 
 // thread `t`, if it is present, by its node table
+#[tactic(auto, unfolding(crate::specs::States::state_of))]
 fn state_of(
     threads: u32,
     t: u32,
