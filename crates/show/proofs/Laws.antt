@@ -1,5 +1,5 @@
 -- From what reading, building and printing promise to what is shown.
-use mathlib.Core.Path.{◌≡◌, refl, sym, ap, ◌∙◌}
+use mathlib.Core.Path.{◌≡◌, sym, ap, ◌∙◌}
 use Prim.Native.Nat.{ℕ, ◌*◌, ◌≤◌, min}
 use native.Mathlib.Omega.{arith}
 use native.Mathlib.Decide.{dec_le}
@@ -11,14 +11,14 @@ use Rattle.thread.specs.Sizes.{line_width}
 use Rattle.thread.specs.Numbers.{zeros}
 use Rattle.text.specs.declared.Reading.{Reading}
 use Rattle.text.specs.declared.Reading.TheVariants as G
-use Rattle.text.specs.Read.{ReadOk, read}
+use Rattle.text.specs.Read.{ReadOk}
 use Rattle.graphs.specs.declared.Built.{Built}
 use Rattle.graphs.specs.declared.Built.TheVariants as B
-use Rattle.graphs.specs.Build.{Result, build}
+use Rattle.graphs.specs.Build.{build}
 use Rattle.builder.specs.Result.{Leaves}
 use Rattle.printed.specs.declared.Printed.{Printed}
-use Rattle.printed.specs.Printed.{Print, print', printed}
-use Rattle.show.specs.Show.{shown_refusal, Screen, shown_built, shown_result, shown_table, shown_reading, shown_text, TableShown, TextShown}
+use Rattle.printed.specs.Printed.{print', printed}
+use Rattle.show.specs.Show.{shown_refusal, shown_built, shown_result, shown_table, shown_reading, shown_text, TableShown, TextShown}
 
 module _ {m : ℕ} {t : List ℕ} {node_room edge_room room : ℕ} {a : Built} {nodes edges area : List ℕ} {p : Printed} (l : Leaves (build m t node_room edge_room) a nodes edges) where
   result : print' p area ≡ shown_built m room a nodes edges → TableShown m t node_room edge_room room p nodes edges area
