@@ -4,9 +4,9 @@ use Prim.Native.Nat.{ℕ, zero, suc, ◌+◌, ◌-◌, ◌≤◌, ◌<◌}
 use native.Mathlib.Omega.{arith}
 use native.Mathlib.Nat.{suc-add}
 use mathlib.Core.List.{List, ◌∷◌, ◌++◌, append_assoc}
-use lib.ListN.{length, take, drop, length-append, length-take, length-drop, length-replicate, replicate-append-replicate, get_or-append}
+use lib.ListN.{length, take, drop, length-append, length-take, length-drop, length-replicate, replicate-append-replicate}
 use lib.Seq.{take-append_seam, take-append-le, drop-append-le, take-append-add, take_all}
-use Rattle.thread.specs.Numbers.{◌!◌, zeros, filled}
+use Rattle.thread.specs.Numbers.{zeros, filled}
 use Rattle.pending.specs.Pending.{put_in, take_out}
 use Rattle.pending.proofs.Places.{put_at}
 

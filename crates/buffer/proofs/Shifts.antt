@@ -8,7 +8,7 @@ use lib.ListN.{length, take, drop, set, length-drop, get_or-append}
 use lib.Seq.{length-take-le, take_all, take-suc, drop-cons, append_snoc, set_at, get_or-take, get_or-drop, paste, paste-zero, drop-paste}
 use Rattle.thread.specs.Numbers.{◌!◌}
 use Rattle.pending.specs.Pending.{put_in, take_out}
-use Rattle.pending.proofs.Moves.{moved, take_out}
+use Rattle.pending.proofs.Moves.{moved, take-out}
 
 -- the entries from place i on stand one place higher, and the one at i is still there
 abbrev pub up : List ℕ → ℕ → List ℕ
@@ -67,4 +67,4 @@ module _ (l : List ℕ) (full : length l ≡ 16) where
         ap (λ (k : ℕ). set (down l at i) k (down l at i ! (i + 1))) (sym e) ∙ m ∙ ap (paste l at (drop (at + 1) l)) (sym n)
 
   pub down-end : (at : ℕ) → at < 16 → set (down l at 15) 15 0 ≡ take_out at 0 l
-  down-end at h = take_out l at full h 0
+  down-end at h = take-out l at full h 0

@@ -3,7 +3,6 @@ use Rattle.std.specs.Prelude.{true, false, ℕ, ◌+◌, ◌-◌, List, [], ◌�
 use Rattle.thread.specs.declared.Line.{Line}
 use Rattle.thread.specs.Sizes.{most_waiting}
 use Rattle.thread.specs.Numbers.{filled}
-use Rattle.thread.specs.Table.{line}
 use Rattle.pending.specs.Pending.{put_in, take_out}
 use Rattle.buffered.specs.Machine.{Pair, var_of, Buffered}
 use Rattle.shown.specs.declared.ThreadState.{ThreadState}

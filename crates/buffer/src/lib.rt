@@ -131,6 +131,7 @@ fn put(
 }
 
 // the change made
+#[tactic(auto, unfolding(crate::specs::Step::applied))]
 fn apply_lent(
     change: Change,
     model: Model,
@@ -162,6 +163,7 @@ fn apply_lent(
 }
 
 // one step in lent lists: decide, then apply; none where the pairs have not their 16 places
+#[tactic(auto, unfolding(crate::specs::Step::stepped))]
 pub fn turn(
     model: Model,
     instr: Instr,
@@ -238,6 +240,7 @@ pub fn apply(change: Change, model: Model, memory: [u32; 16], core: ThreadState)
 }
 
 // one step: decide, then apply
+#[tactic(auto, unfolding(crate::specs::Step::stepped))]
 pub fn step(model: Model, instr: Instr, choice: u32, memory: [u32; 16], core: ThreadState) -> Moved
     ensures { result ≡ stepped model instr choice memory core }
 {
