@@ -1,6 +1,6 @@
 -- `mark_after` marks what comes after a line.
 use borrow.Author.Rules.{rules}
-use Rattle.admit.proofs.Instructions.{plain-after}
+use Rattle.admit.proofs.Instructions.{plain-follows}
 use Rattle.admit.proofs.Marked.{mark-branch, mark-jump, mark-return, mark-next}
 use Rattle.admit.proofs.mark_after.Goals as goal
 
@@ -22,4 +22,4 @@ returns-in-Return c =
 pub returns-in_default : goal.returns-in_default
 returns-in_default c =
     let a = c.args in
-    mark-next a.marks a.l a.instr (plain-after a.l a.instr c.in_default.not-Branch c.in_default.not-Jump c.in_default.not-Return) c.mark-in_default.ensures
+    mark-next a.marks a.l a.instr (plain-follows a.l a.instr c.in_default.not-Branch c.in_default.not-Jump c.in_default.not-Return) c.mark-in_default.ensures
