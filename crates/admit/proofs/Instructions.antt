@@ -13,7 +13,7 @@ use Rattle.thread.specs.declared.Instr.{Instr}
 use Rattle.thread.specs.declared.Instr.TheVariants as I
 use Rattle.thread.specs.Sizes.{line_width}
 use Rattle.thread.specs.Numbers.{◌!◌}
-use Rattle.thread.specs.Table.{line, next, number_at, fields_of}
+use Rattle.thread.specs.Table.{next, number_at, fields_of}
 use Rattle.thread.specs.contracts.Instr.{the_type}
 use Rattle.thread.proofs.Instructions.{NoneBelow, none_below}
 use Rattle.checks.specs.Lines.{after, drains}
