@@ -1,5 +1,5 @@
 -- Nothing is left open: two results that keep the promise are equal, answer and all rooms.
-use mathlib.Core.Path.{◌≡◌, refl, sym, ap, ◌∙◌}
+use mathlib.Core.Path.{◌≡◌, sym, ap, ◌∙◌}
 use mathlib.Core.Option.{Option, none, some, Option-elim}
 use Prim.Native.Nat.{ℕ}
 use mathlib.Core.List.{List, [], ◌∷◌}
@@ -10,7 +10,7 @@ use Rattle.runs.specs.Run.{Bad}
 use Rattle.generated.specs.RunGenerated.{Rooms}
 use Rattle.rooms.specs.declared.Making.{Making}
 use Rattle.rooms.specs.declared.Making.TheVariants as M
-use Rattle.rooms.specs.Graphs.{refused_in, Refuses, Fills, Makes}
+use Rattle.rooms.specs.Graphs.{Makes}
 
 -- who is refused is told by the refusal
 same-bad : (t t₂ : ℕ) (r r₂ : Refusal) → ◌≡◌ {A = Option Bad} (some (record { thread = t; refusal = r })) (some (record { thread = t₂; refusal = r₂ })) → M.Refused t r ≡ M.Refused t₂ r₂

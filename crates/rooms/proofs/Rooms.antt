@@ -4,7 +4,7 @@ use mathlib.Core.Bool.{Bool, true, false, cond, ◌||◌}
 use mathlib.Core.Option.{Option, none, some}
 use Prim.Native.Nat.{ℕ, zero, suc, ◌+◌, ◌*◌, ◌≤◌, ◌<◌}
 use native.Mathlib.Omega.{arith}
-use mathlib.Core.List.{List, [], ◌∷◌, ◌++◌, map}
+use mathlib.Core.List.{List, [], map}
 use lib.ListN.{length, get_or, length-append, length-map}
 use lib.Dec.{ltb, eqb}
 use Rattle.lists.proofs.Tests.{lt-true, lt-false, false-lt}
@@ -153,9 +153,6 @@ module _ (m count : ℕ) (tables : List (List ℕ)) (rooms : Rooms) where
   threads-first few = sym (first-is m count (λ t. get_or tables t []) (node_room rooms) (edge_room rooms) (few_threads count few) ∙ rw (few, threads_refused))
 
   module _ (ns es : List (List ℕ)) (x : Making) (h : MakesFour m count tables rooms ns es x) where
-    pub fill_done : (c0 c1 c2 c3 : ℕ) → x ≡ M.Graphs c0 c1 c2 c3 → Makes m count tables rooms ns es x
-    fill_done c0 c1 c2 c3 e = subst (Makes m count tables rooms ns es) (sym e) (subst (MakesFour m count tables rooms ns es) e h)
-
     pub fill-refused : (t : ℕ) (r : Refusal) → x ≡ M.Refused t r → map length ns ≡ rooms.nodes → map length es ≡ rooms.edges
         → (ns' es' : List (List ℕ)) → Cleared ns es ns' es' → Makes m count tables rooms ns' es' x
     fill-refused t r e p q ns' es' c =

@@ -17,6 +17,7 @@ pub enum Making {
 }
 
 // how many edges were built
+#[tactic(auto, unfolding(graphs::specs::Build::build_answer))]
 fn edges_in(built: Built) -> u32
     ensures { result ≡ (build_answer built).edges }
 {
@@ -27,6 +28,7 @@ fn edges_in(built: Built) -> u32
 }
 
 // 14: "no thread, or more than 4"
+#[tactic(auto, unfolding(runs::specs::Run::bad_threads))]
 fn bad_threads(count: u32) -> bool
     ensures { result ≡ bad_threads count }
 {
