@@ -14,7 +14,7 @@ use Rattle.thread.specs.declared.Refusal.{Refusal}
 use Rattle.thread.specs.Sizes.{most_threads, most_waiting}
 use Rattle.thread.specs.Word.{word}
 use Rattle.thread.specs.Numbers.{filled}
-use Rattle.thread.specs.Table.{line, Prog, instr_at, lines_of}
+use Rattle.thread.specs.Table.{Prog, instr_at, lines_of}
 use Rattle.checks.specs.Lines.{follows}
 use Rattle.checks.specs.Checks.{admission, model_of}
 use Rattle.checks.proofs.Loops.{leads-inside}

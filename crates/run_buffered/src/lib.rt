@@ -66,6 +66,7 @@ fn turn(
 }
 
 // the items in order, up to the first that names no step
+#[tactic(auto, unfolding(runs::specs::Run::end_of, crate::specs::Cores::reached))]
 fn steps(
     model: Model,
     threads: u32,
