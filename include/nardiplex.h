@@ -19,7 +19,7 @@
  *     call. Areas lent for reading may overlap each other; nobody writes them during the call.
  *   - The caller's stack has as many bytes left as NARDIPLEX_STACK_.. says for the function.
  *
- * Link with target/staticlib/libnardiplex.a, which `rt staticlib nardiplex` writes (x86-64). C99 and C++.
+ * Link with target/staticlib/libnardiplex.a, which `./library` writes (x86-64). C99 and C++.
  */
 #ifndef NARDIPLEX_H
 #define NARDIPLEX_H

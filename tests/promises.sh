@@ -13,7 +13,7 @@
 # A row or an exception for what isn't there, or doesn't fall short, is a fault too, so both lists stay true.
 # A program's main is no public function: nobody can call it.
 cd "${1:-$(dirname "$0")/..}" || exit 2
-sources=$(find crates -path '*/src/*' -name '*.rt' | sort)
+sources=$(find crates -path '*/out' -prune -o -path '*/src/*' -name '*.rt' -print | sort)
 [ -n "$sources" ] || { echo "no sources under crates/" >&2; exit 2; }
 # The names have no blanks, so the list may be split.
 # shellcheck disable=SC2086
@@ -78,7 +78,7 @@ function closed(opening, closing,    inside, t, deep) {
 }
 
 # A function from its name on: its parameters, its result and its clauses; the bracket that opens its body is read.
-function header(    t, last) {
+function header(    t, clause) {
     name = token()
     params = ""; result = ""; requires = ""; ensures = ""
     while ((t = token()) != "") {
@@ -87,12 +87,14 @@ function header(    t, last) {
             else closed("(", ")")
         } else if (t == "[") closed("[", "]")
         else if (t == "{") {
-            if (last == "requires") requires = requires closed("{", "}") " "
-            else if (last == "ensures") ensures = ensures closed("{", "}") " "
+            if (clause == "requires") requires = requires closed("{", "}") " "
+            else if (clause == "ensures") ensures = ensures closed("{", "}") " × "
             else return t
+            clause = ""
         } else if (t == ";") return t
         if (params != "" && index(before, "->")) result = 1
-        last = t
+        # a clause may have a name
+        if (t == "requires" || t == "ensures") clause = t
     }
     return t
 }
@@ -100,14 +102,14 @@ function header(    t, last) {
 # Whether the ensures is equations and nothing else.
 function equations(    part, n, i) {
     n = split(ensures, part, " × ")
-    for (i = 1; i <= n; i++) if (!index(part[i], " ≡ ")) return 0
+    for (i = 1; i <= n; i++) if (part[i] ~ /[^ ]/ && !index(part[i], " ≡ ")) return 0
     return 1
 }
 
 # The word that the promise begins with, where it is a relation.
 function relation(    words) {
     words = ensures
-    sub(/^.*⌜ */, "", words)
+    sub(/^ */, "", words)
     sub(/[^A-Za-z0-9_].*/, "", words)
     return words
 }
@@ -143,13 +145,10 @@ function unfounded(ground,    n, word, i, file, laws) {
     return ""
 }
 
-function shortfalls(function_,    said, n, p, i, lent, r) {
+function shortfalls(function_,    said, n, p, i, lent) {
     if (requires != "") said = said "; it has a requires"
     if (ensures == "") return said "; it has no ensures"
-    r = ensures
-    sub(/^ *λ */, "", r)
-    sub(/[^A-Za-z0-9_].*/, "", r)
-    if (result && (r == "_" || ensures !~ ("[^A-Za-z0-9_.]" r "[^A-Za-z0-9_].*[^A-Za-z0-9_.]" r "[^A-Za-z0-9_]")))
+    if (result && " " ensures !~ /[^A-Za-z0-9_.]result[^A-Za-z0-9_]/)
         said = said "; its ensures does not speak of the result"
     n = split(params, p, ",")
     for (i = 1; i <= n; i++) if (index(p[i], "&mut")) {
@@ -157,7 +156,7 @@ function shortfalls(function_,    said, n, p, i, lent, r) {
         if (lent ~ /&mut self/) lent = "self"
         sub(/:.*/, "", lent)
         gsub(/[^A-Za-z0-9_]|mut /, "", lent)
-        if (!index(ensures, "(" lent " .exit)")) said = said "; its ensures does not speak of what is left in " lent
+        if (" " ensures !~ ("[^A-Za-z0-9_.]" lent "[.]new[^A-Za-z0-9_]")) said = said "; its ensures does not speak of what is left in " lent
     }
     if (!(function_ in row)) return said "; docs/TRACE.md does not list it"
     p[1] = unfounded(row[function_])
