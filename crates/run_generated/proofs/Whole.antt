@@ -20,7 +20,7 @@ use Rattle.runs.specs.Start.{Start, start_world}
 use Rattle.runs.specs.declared.Ended.TheVariants as E
 use Rattle.runs.specs.Shown.{shown_state, zero_state}
 use Rattle.runs.proofs.Worlds.{within, Each, view_stand, view_world, same_runs}
-use Rattle.graphs.specs.Build.{Result, refusal, build}
+use Rattle.graphs.specs.Build.{Result, build}
 use Rattle.edges.specs.Sought.{Sorted}
 use Rattle.edges.proofs.Order.{sorted-built}
 use Rattle.generated.specs.declared.Generated.{Generated}
