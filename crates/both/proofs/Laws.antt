@@ -1,23 +1,20 @@
 -- What the two functions promise, and demand 3, give that what they return agrees.
-use mathlib.Core.Path.{◌≡◌, refl, sym, ap, subst, ◌∙◌}
+use mathlib.Core.Path.{◌≡◌}
 use Prim.Native.Nat.{ℕ}
-use mathlib.Core.List.{List, [], map}
-use lib.ListN.{get_or, get_or-map}
-use Rattle.thread.specs.Table.{Prog, instr_at}
-use Rattle.runs.specs.Run.{run_answer}
+use mathlib.Core.List.{List}
+use lib.ListN.{get_or-map}
 use Rattle.runs.specs.Start.{Start}
-use Rattle.runs.specs.Shown.{ShownThread, nobody}
-use Rattle.buffered.specs.RunBuffered.{BufferedResult, run_buffered}
-use Rattle.generated.specs.RunGenerated.{Rooms, GeneratedResult, run_generated}
-use Rattle.shown.specs.declared.ThreadState.{ThreadState}
+use Rattle.runs.specs.Shown.{nobody}
+use Rattle.buffered.specs.RunBuffered.{run_buffered}
+use Rattle.generated.specs.RunGenerated.{Rooms, run_generated}
 use Rattle.shown.specs.declared.Ran.{Ran}
 use Rattle.shown.specs.Ran.{start_of, thread_state, ran_of}
 use Rattle.run_buffered.specs.Ran.{buffered_ran}
 use Rattle.rooms.specs.Graphs.{rooms_of}
 use Rattle.run_generated.specs.Ran.{Runs}
-use Rattle.agree.specs.Demands.{AllAccepted, SameThread, Agree}
+use Rattle.agree.specs.Demands.{Agree}
 use Rattle.agree.proofs.Whole.{demand3}
-use Rattle.both.specs.Returned.{of_state, ReturnedAgree, BothRun}
+use Rattle.both.specs.Returned.{ReturnedAgree, BothRun}
 
 module _ (model count : ℕ) (tables : List (List ℕ)) (memory registers schedule : List ℕ) (nodes edges : List (List ℕ)) where
   abbrev s : Start

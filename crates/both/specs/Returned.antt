@@ -3,10 +3,9 @@ use Rattle.std.specs.Prelude.{◌≡◌, ℕ, ◌<◌, List, [], get_or}
 use Rattle.thread.specs.Sizes.{most_threads}
 use Rattle.thread.specs.Table.{instr_at}
 use Rattle.runs.specs.Run.{run_answer}
-use Rattle.runs.specs.Start.{Start}
 use Rattle.runs.specs.Shown.{ShownThread, nobody}
 use Rattle.buffered.specs.RunBuffered.{run_buffered}
-use Rattle.generated.specs.RunGenerated.{Rooms, run_generated}
+use Rattle.generated.specs.RunGenerated.{run_generated}
 use Rattle.shown.specs.declared.ThreadState.{ThreadState}
 use Rattle.shown.specs.declared.Ran.{Ran}
 use Rattle.shown.specs.Ran.{start_of, thread_state}
