@@ -17,6 +17,7 @@ use text::Reading;
 use thread::{Refusal, number_of, place_of};
 
 // number, place, model, lines
+#[tactic(auto, unfolding(crate::specs::Answers::read_numbers))]
 fn read_numbers(reading: Reading) -> [u64; 4]
     ensures { result ≡ read_numbers reading }
 {
@@ -27,6 +28,7 @@ fn read_numbers(reading: Reading) -> [u64; 4]
 }
 
 // number, place, nodes, edges
+#[tactic(auto, unfolding(crate::specs::Answers::build_numbers))]
 fn build_numbers(built: Built) -> [u64; 4]
     ensures { result ≡ build_numbers built }
 {
@@ -37,6 +39,7 @@ fn build_numbers(built: Built) -> [u64; 4]
 }
 
 // number, place, thread, steps
+#[tactic(auto, unfolding(crate::specs::Answers::run_numbers))]
 fn run_numbers(ended: Ended) -> [u64; 4]
     ensures { result ≡ run_numbers ended }
 {
@@ -110,6 +113,7 @@ fn pass(ran: Ran, state: &mut [u32; 216], answer: &mut [u64; 4])
 }
 
 // reads a thread's text into a table
+#[unsafe(no_mangle)]
 pub extern "C" fn nardiplex_read(text: &[u8], table: &mut [u32], answer: &mut [u64; 4])
     ensures { ReadPassed text.now (length table.old) table.new answer.new }
 {
@@ -117,6 +121,7 @@ pub extern "C" fn nardiplex_read(text: &[u8], table: &mut [u32], answer: &mut [u
 }
 
 // builds a thread's graph into the lent rooms
+#[unsafe(no_mangle)]
 pub extern "C" fn nardiplex_build(
     model: u32,
     table: &[u32],
@@ -130,6 +135,7 @@ pub extern "C" fn nardiplex_build(
 }
 
 // runs buffered threads
+#[unsafe(no_mangle)]
 pub extern "C" fn nardiplex_run_buffered(
     model: u32,
     threads: u32,
@@ -152,6 +158,7 @@ pub extern "C" fn nardiplex_run_buffered(
 }
 
 // runs generated threads, whose graphs are built in the lent rooms
+#[unsafe(no_mangle)]
 pub extern "C" fn nardiplex_run_generated(
     model: u32,
     threads: u32,
