@@ -1,3 +1,4 @@
+pub mod Rows
 pub mod Search
 pub mod Laws
 pub mod Records
