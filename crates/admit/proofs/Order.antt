@@ -104,9 +104,9 @@ module _ (m : ℕ) (t : List ℕ) where
   unfolding no_lines when
   some_lines h = rw (eq-false (length t) 0 h)
 
-  too_many : most < length t → too_many_lines t ≡ some R.TooManyLines
+  too-many : most < length t → too_many_lines t ≡ some R.TooManyLines
   unfolding too_many_lines when
-  too_many h = rw (lt-true most (length t) h)
+  too-many h = rw (lt-true most (length t) h)
 
   few-enough : length t ≤ most → too_many_lines t ≡ none
   unfolding too_many_lines when
@@ -132,7 +132,7 @@ module _ (m : ℕ) (t : List ℕ) where
     module _ (filled : length t ≢ 0) where
       pub at-4 : most < length t → Refused R.TooManyLines ≡ answered
       unfolding admission first_of answer
-      at-4 h = rw (good-model model, some_lines filled, too_many h)
+      at-4 h = rw (good-model model, some_lines filled, too-many h)
 
       module _ (few : length t ≤ most) where
         pub at_5 : length t % line_width ≢ 0 → Refused R.RaggedTable ≡ answered

@@ -89,10 +89,10 @@ module _ (prog : Prog) where
   walk-leads (more m w) f = pass_on f.0 m (walk-leads w f.1)
 
   -- the part of a walk up to a line of it
-  up_to : {s l k : Line} {ls : List Line} → Walk prog l ls k → All Free ls → Memᴰ s ls → Leads (passes prog) l s
-  up_to {s} {l} (one m) f n = subst (Leads (passes prog) l) (sym (Memᴰ.eq_of_singleton n)) reach_start
-  up_to {s} (more {l} {j} {k} {ls} m w) f n =
-      ⊎_elim (λ (q : s ≡ l). subst (Leads (passes prog) l) (sym q) reach_start) (λ (n' : Memᴰ s ls). pass_on f.0 m (up_to w f.1 n')) (Memᴰ.cases_cons n)
+  up-to : {s l k : Line} {ls : List Line} → Walk prog l ls k → All Free ls → Memᴰ s ls → Leads (passes prog) l s
+  up-to {s} {l} (one m) f n = subst (Leads (passes prog) l) (sym (Memᴰ.eq_of_singleton n)) reach_start
+  up-to {s} (more {l} {j} {k} {ls} m w) f n =
+      ⊎_elim (λ (q : s ≡ l). subst (Leads (passes prog) l) (sym q) reach_start) (λ (n' : Memᴰ s ls). pass_on f.0 m (up-to w f.1 n')) (Memᴰ.cases_cons n)
 
   -- the part of a walk from a line of it on
   record Onward (s k : Line) : Type 0 where
@@ -108,7 +108,7 @@ module _ (prog : Prog) where
 
   loop-of : (l : Line) → Cycle prog l → Unfenced prog l
   loop-of l c =
-      let to = up_to c.cycle c.free c.holds in
+      let to = up-to c.cycle c.free c.holds in
       let on = onward c.cycle c.free c.holds in
       record {
         is_stored = c.is_stored;

@@ -61,7 +61,7 @@ module _ (refusal : ℕ → Option Refusal) where
     unfolding threads_refused bad_threads
     no_threads e = rw (e, threads_refused)
 
-    many-threads : 4 < count → threads_refused refusal count ≡ some (record { thread = 0; refusal = R.BadThreads })
+    pub many-threads : 4 < count → threads_refused refusal count ≡ some (record { thread = 0; refusal = R.BadThreads })
     unfolding threads_refused bad_threads
     many-threads h = rw (eq-false count 0 (λ e. omega arith), lt-true most_threads count h, threads_refused)
 

@@ -251,9 +251,9 @@ module _ (model n m : ℕ) (nt et : List ℕ) (model' n' m' : ℕ) (nt' et' : Li
         edge = λ j h. same-edge et et' j (g.ops j h) (g'.ops j (omega arith)) (r.1 j (omega arith) h);
       }
 
-  same_lines : graph_lines model n m nt et ≡ graph_lines model' n' m' nt' et' → SameGraph model n m nt et model' n' m' nt' et'
+  same-lines : graph_lines model n m nt et ≡ graph_lines model' n' m' nt' et' → SameGraph model n m nt et model' n' m' nt' et'
   unfolding graph_lines
-  same_lines e =
+  same-lines e =
       let a : decimal n ≡ decimal n' = cc in
       let b : decimal m ≡ decimal m' = cc in
       let c : model_name model ≡ model_name model' = cc in
@@ -263,5 +263,5 @@ module _ (model n m : ℕ) (nt et : List ℕ) (model' n' m' : ℕ) (nt' et' : Li
 pub read_back : ReadBack
 unfolding graph_text
 read_back model n m nt et model' n' m' nt' et' g g' e =
-    same_lines model n m nt et model' n' m' nt' et' g g'
+    same-lines model n m nt et model' n' m' nt' et' g g'
     (lines-unique (graph_lines model n m nt et) (graph_lines model' n' m' nt' et') (graph-readable model n m nt et) (graph-readable model' n' m' nt' et') e)

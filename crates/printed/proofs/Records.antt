@@ -34,10 +34,10 @@ padded t t' i n n' q e x z z' = go (dec_lt x n)
     go (no s) = z (omega arith) ∙ sym (z' (omega arith))
 
 module _ (nt nt' : List ℕ) (k : ℕ) (s : SameNode nt nt' k) where
-  node_at : (i : ℕ) → (count_of nt k ≤ i - 2 → nt ! (18 * k + 2 + (i - 2)) ≡ 0) → (count_of nt' k ≤ i - 2 → nt' ! (18 * k + 2 + (i - 2)) ≡ 0) → nt ! (18 * k + i) ≡ nt' ! (18 * k + i)
-  node_at zero z z' = let a : 18 * k + 0 ≡ 18 * k = omega arith in rw a s.line
-  node_at (suc zero) z z' = s.count
-  node_at (suc (suc i)) z z' =
+  node-at : (i : ℕ) → (count_of nt k ≤ i - 2 → nt ! (18 * k + 2 + (i - 2)) ≡ 0) → (count_of nt' k ≤ i - 2 → nt' ! (18 * k + 2 + (i - 2)) ≡ 0) → nt ! (18 * k + i) ≡ nt' ! (18 * k + i)
+  node-at zero z z' = let a : 18 * k + 0 ≡ 18 * k = omega arith in rw a s.line
+  node-at (suc zero) z z' = s.count
+  node-at (suc (suc i)) z z' =
       let a : 18 * k + suc (suc i) ≡ 18 * k + 2 + i = omega arith in
       let b : suc (suc i) - 2 ≡ i = omega arith in
       rw a (padded nt nt' (18 * k + 2) (count_of nt k) (count_of nt' k) s.count s.waiting i (rw b at z) (rw b at z'))
@@ -58,7 +58,7 @@ module _ (model n m : ℕ) (nt et : List ℕ) (model' n' m' : ℕ) (nt' et' : Li
       let a : n ≡ n' = s.nodes in
       let b : m ≡ m' = s.edges in
       record {
-        nodes = λ k i h l. node_at nt nt' k (s.node k h) i (λ c. z.nodes k (i - 2) h c (omega arith)) (λ c. z'.nodes k (i - 2) (omega arith) c (omega arith));
+        nodes = λ k i h l. node-at nt nt' k (s.node k h) i (λ c. z.nodes k (i - 2) h c (omega arith)) (λ c. z'.nodes k (i - 2) (omega arith) c (omega arith));
         edges = λ j i h l. edge-at et et' j (s.edge j h) i (λ c. z.edges j (i - 3) h c (omega arith)) (λ c. z'.edges j (i - 3) (omega arith) c (omega arith));
       }
 

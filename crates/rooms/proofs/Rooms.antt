@@ -75,11 +75,11 @@ module _ (b : ℕ → Result) where
   no_stop e f g h = pass at 0 3 e ∙ pass at 1 2 f ∙ pass at 2 1 g ∙ pass at 3 0 h
 
 -- beyond the first n none is refused
-up_to : (f g : ℕ → Option Refusal) (t n m : ℕ) → n ≤ m → ((i : ℕ) → t ≤ i → i < t + n → f i ≡ g i) → ((i : ℕ) → t + n ≤ i → f i ≡ none) → first_bad f t m ≡ first_bad g t n
+up-to : (f g : ℕ → Option Refusal) (t n m : ℕ) → n ≤ m → ((i : ℕ) → t ≤ i → i < t + n → f i ≡ g i) → ((i : ℕ) → t + n ≤ i → f i ≡ none) → first_bad f t m ≡ first_bad g t n
 unfolding first_bad
-up_to f g t zero m l h k = no_more f t m (λ i j. k i (omega arith))
-up_to f g t (suc n) zero l h k = absurd (omega arith)
-up_to f g t (suc n) (suc m) l h k = go (g t) refl (up_to f g (suc t) n m (omega arith) (λ i a c. h i (omega arith) (omega arith)) (λ i a. k i (omega arith)))
+up-to f g t zero m l h k = no_more f t m (λ i j. k i (omega arith))
+up-to f g t (suc n) zero l h k = absurd (omega arith)
+up-to f g t (suc n) (suc m) l h k = go (g t) refl (up-to f g (suc t) n m (omega arith) (λ i a c. h i (omega arith) (omega arith)) (λ i a. k i (omega arith)))
   where
     go : (o : Option Refusal) → g t ≡ o → first_bad f (suc t) m ≡ first_bad g (suc t) n → first_bad f t (suc m) ≡ first_bad g t (suc n)
     go none e r = pass f t m (h t (omega arith) (omega arith) ∙ e) ∙ r ∙ sym (pass g t n e)
@@ -127,7 +127,7 @@ pub first-is : (m count : ℕ) (tables : ℕ → List ℕ) (nodes edges : ℕ �
     → first_refused (λ t. made (ltb t count) m (tables t) (nodes t) (edges t)) ≡ first_bad (λ t. refusal m (tables t) (nodes t) (edges t)) 0 count
 unfolding made refused_by
 first-is m count tables nodes edges h =
-    up_to (λ t. refused_by (made (ltb t count) m (tables t) (nodes t) (edges t)).answer) (λ t. refusal m (tables t) (nodes t) (edges t)) 0 count 4 h
+    up-to (λ t. refused_by (made (ltb t count) m (tables t) (nodes t) (edges t)).answer) (λ t. refusal m (tables t) (nodes t) (edges t)) 0 count 4 h
     (λ i l k. let j : i < count = omega arith in rw (lt-true i count j) (built-refusal m (tables i) (nodes i) (edges i)))
     (λ i l. let j : count ≤ i = omega arith in rw (lt-false i count j))
 
@@ -153,6 +153,9 @@ module _ (m count : ℕ) (tables : List (List ℕ)) (rooms : Rooms) where
   threads-first few = sym (first-is m count (λ t. get_or tables t []) (node_room rooms) (edge_room rooms) (few_threads count few) ∙ rw (few, threads_refused))
 
   module _ (ns es : List (List ℕ)) (x : Making) (h : MakesFour m count tables rooms ns es x) where
+    pub fill_done : (c0 c1 c2 c3 : ℕ) → x ≡ M.Graphs c0 c1 c2 c3 → Makes m count tables rooms ns es x
+    fill_done c0 c1 c2 c3 e = subst (Makes m count tables rooms ns es) (sym e) (subst (MakesFour m count tables rooms ns es) e h)
+
     pub fill-refused : (t : ℕ) (r : Refusal) → x ≡ M.Refused t r → map length ns ≡ rooms.nodes → map length es ≡ rooms.edges
         → (ns' es' : List (List ℕ)) → Cleared ns es ns' es' → Makes m count tables rooms ns' es' x
     fill-refused t r e p q ns' es' c =

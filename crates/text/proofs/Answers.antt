@@ -115,9 +115,9 @@ pub read-long : (room : ℕ) (text : List ℕ) → 4096 < length text → read r
 unfolding read
 read-long room text h = rw (lt-true 4096 (length text) h)
 
-pub too_long : (room : ℕ) (text table : List ℕ) → 4096 < length text → table ≡ zeros room → ReadOk room text (G.Refused (R.BadText 0)) table
+pub too-long : (room : ℕ) (text table : List ℕ) → 4096 < length text → table ≡ zeros room → ReadOk room text (G.Refused (R.BadText 0)) table
 unfolding refused
-too_long room text table h z =
+too-long room text table h z =
     let q : read room text ≡ refused room (R.BadText 0) = read-long room text h in
     record { answered = ap (λ (r : ReadResult). r.answer) (sym q); left = z ∙ ap (λ (r : ReadResult). r.table) (sym q) }
 

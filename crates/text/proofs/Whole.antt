@@ -64,16 +64,16 @@ line-front : (l rest : List ℕ) → Ended l → text_lines (l ++ rest) ≡ l �
 line-front l rest w = rw w.ended (front w.bytes rest w.free)
 
 -- what is written has these lines
-lines_of : (es : List Entry) → All Proper es → text_lines (lines_text es) ≡ map line_text es
+lines-of : (es : List Entry) → All Proper es → text_lines (lines_text es) ≡ map line_text es
 unfolding lines_text text_lines
-lines_of [] h = refl
-lines_of (e ∷ es) h = line-front (line_text e) (lines_text es) (line-text e h.0) ∙ ap (λ (ls : List (List ℕ)). line_text e ∷ ls) (lines_of es h.1)
+lines-of [] h = refl
+lines-of (e ∷ es) h = line-front (line_text e) (lines_text es) (line-text e h.0) ∙ ap (λ (ls : List (List ℕ)). line_text e ∷ ls) (lines-of es h.1)
 
 pub text_of : (t : Text) → ProperText t → text_lines (written t) ≡ model_text t.model ∷ map line_text t.lines
 unfolding written
 text_of t h =
     line-front (model_text t.model) (lines_text t.lines) (model-text t.model h.known)
-    ∙ ap (λ (ls : List (List ℕ)). model_text t.model ∷ ls) (lines_of t.lines h.lines)
+    ∙ ap (λ (ls : List (List ℕ)). model_text t.model ∷ ls) (lines-of t.lines h.lines)
 
 -- so it is read as what it was written of
 lines-read : (n : ℕ) (es : List Entry) → All Proper es → read_lines n (map line_text es) ≡ whole es

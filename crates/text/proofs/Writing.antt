@@ -96,25 +96,25 @@ place_is name (n ∷ ns) h = go (same_bytes name n) refl (place_is name ns)
     go false t ih = rw (place-miss name n ns t) (ih (omega (arith, h, place-miss name n ns t)))
 
 -- the kinds one by one
-by_kind : (P : ℕ → Type 0) → P 0 → P 1 → P 2 → P 3 → P 4 → P 5 → P 6 → P 7 → P 8 → P 9 → P 10 → P 11 → (k : ℕ) → k < 12 → P k
-by_kind P a b c d e f g h i j k l zero s = a
-by_kind P a b c d e f g h i j k l (suc zero) s = b
-by_kind P a b c d e f g h i j k l (suc (suc zero)) s = c
-by_kind P a b c d e f g h i j k l (suc (suc (suc zero))) s = d
-by_kind P a b c d e f g h i j k l (suc (suc (suc (suc zero)))) s = e
-by_kind P a b c d e f g h i j k l (suc (suc (suc (suc (suc zero))))) s = f
-by_kind P a b c d e f g h i j k l (suc (suc (suc (suc (suc (suc zero)))))) s = g
-by_kind P a b c d e f g h i j k l (suc (suc (suc (suc (suc (suc (suc zero))))))) s = h
-by_kind P a b c d e f g h i j k l (suc (suc (suc (suc (suc (suc (suc (suc zero)))))))) s = i
-by_kind P a b c d e f g h i j k l (suc (suc (suc (suc (suc (suc (suc (suc (suc zero))))))))) s = j
-by_kind P a b c d e f g h i j k l (suc (suc (suc (suc (suc (suc (suc (suc (suc (suc zero)))))))))) s = k
-by_kind P a b c d e f g h i j k l (suc (suc (suc (suc (suc (suc (suc (suc (suc (suc (suc zero))))))))))) s = l
-by_kind P a b c d e f g h i j k l (suc (suc (suc (suc (suc (suc (suc (suc (suc (suc (suc (suc n)))))))))))) s = absurd (omega arith)
+by-kind : (P : ℕ → Type 0) → P 0 → P 1 → P 2 → P 3 → P 4 → P 5 → P 6 → P 7 → P 8 → P 9 → P 10 → P 11 → (k : ℕ) → k < 12 → P k
+by-kind P a b c d e f g h i j k l zero s = a
+by-kind P a b c d e f g h i j k l (suc zero) s = b
+by-kind P a b c d e f g h i j k l (suc (suc zero)) s = c
+by-kind P a b c d e f g h i j k l (suc (suc (suc zero))) s = d
+by-kind P a b c d e f g h i j k l (suc (suc (suc (suc zero)))) s = e
+by-kind P a b c d e f g h i j k l (suc (suc (suc (suc (suc zero))))) s = f
+by-kind P a b c d e f g h i j k l (suc (suc (suc (suc (suc (suc zero)))))) s = g
+by-kind P a b c d e f g h i j k l (suc (suc (suc (suc (suc (suc (suc zero))))))) s = h
+by-kind P a b c d e f g h i j k l (suc (suc (suc (suc (suc (suc (suc (suc zero)))))))) s = i
+by-kind P a b c d e f g h i j k l (suc (suc (suc (suc (suc (suc (suc (suc (suc zero))))))))) s = j
+by-kind P a b c d e f g h i j k l (suc (suc (suc (suc (suc (suc (suc (suc (suc (suc zero)))))))))) s = k
+by-kind P a b c d e f g h i j k l (suc (suc (suc (suc (suc (suc (suc (suc (suc (suc (suc zero))))))))))) s = l
+by-kind P a b c d e f g h i j k l (suc (suc (suc (suc (suc (suc (suc (suc (suc (suc (suc (suc n)))))))))))) s = absurd (omega arith)
 
 -- no name is another, and none has a tab or a line feed
 named-kind : (k : ℕ) → k < kinds → name_at (instr_name k) instr_names ≡ k
 unfolding name_at same_bytes instr_name instr_names
-named-kind = by_kind (λ k. name_at (instr_name k) instr_names ≡ k) refl refl refl refl refl refl refl refl refl refl refl refl
+named-kind = by-kind (λ k. name_at (instr_name k) instr_names ≡ k) refl refl refl refl refl refl refl refl refl refl refl refl
 
 named-model : (m : ℕ) → m < models → name_at (model_name m) model_names ≡ m
 unfolding name_at same_bytes model_name model_names
@@ -128,7 +128,7 @@ Letters l = All (λ b. 97 ≤ b) l
 
 letters : (k : ℕ) → k < kinds → Letters (instr_name k)
 unfolding instr_name instr_names
-letters = by_kind (λ k. Letters (instr_name k)) (omega arith) (omega arith) (omega arith) (omega arith) (omega arith) (omega arith) (omega arith) (omega arith) (omega arith) (omega arith) (omega arith) (omega arith)
+letters = by-kind (λ k. Letters (instr_name k)) (omega arith) (omega arith) (omega arith) (omega arith) (omega arith) (omega arith) (omega arith) (omega arith) (omega arith) (omega arith) (omega arith) (omega arith)
 
 model-letters : (m : ℕ) → m < models → Letters (model_name m)
 unfolding model_name model_names

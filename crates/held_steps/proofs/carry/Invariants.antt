@@ -1,14 +1,11 @@
 -- `carry` meets its contract: the whole run is what is left of it from the machine at hand.
-use mathlib.Core.Path.{◌≡◌, refl, ◌∙◌}
-use mathlib.Core.List.{List, [], ◌∷◌}
-use Prim.Native.Nat.{ℕ, ◌-◌, ◌≤◌, zero-le}
-use native.Mathlib.Omega.{arith}
+use mathlib.Core.Path.{◌≡◌}
+use mathlib.Core.List.{[], ◌∷◌}
+use Prim.Native.Nat.{◌-◌, ◌≤◌}
 use lib.ListN.{length}
 use Rattle.runs.specs.Run.{items, run}
-use Rattle.graphs.specs.declared.Edge.{Edge}
 use Rattle.held.specs.Held.{world_of, along_own}
-use Rattle.held_steps.proofs.Laws.{rest, carried_on, stopped-at, at-end}
-use borrow.Author.Rules.{rules}
+use Rattle.held_steps.proofs.Laws.{rest}
 use Rattle.held_steps.proofs.carry.Given as goal
 
 abbrev pub invariant-loop-at : goal.invariant-loop-at

@@ -1,11 +1,10 @@
 -- `row` keeps within the state.
 use Prim.Native.Nat.{◌-◌}
 use lib.ListN.{length}
-use borrow.Author.Rules.{rules}
 use Rattle.held_steps.proofs.row.Given as goal
 
 abbrev pub invariant-loop-i : goal.invariant-loop-i
-invariant-loop-i l = Unit {0}
+invariant-loop-i g l = Unit {0}
 
 abbrev pub decreases-loop-i : goal.decreases-loop-i
-decreases-loop-i l = length l.name - ?i
+decreases-loop-i g l = length l.state - l.i

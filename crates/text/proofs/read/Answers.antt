@@ -8,13 +8,13 @@ use Rattle.text.specs.Read.{JudgedOk}
 use Rattle.text.specs.Reading.{text_lines, read_lines}
 use Rattle.text.specs.Steps.{lines_in}
 use Rattle.text.proofs.Bytes.{until-le}
-use Rattle.text.proofs.Answers.{too_long, first-lacks, no-model, line-bad, all-good, bad-ok, good-ok}
+use Rattle.text.proofs.Answers.{too-long, first-lacks, no-model, line-bad, all-good, bad-ok, good-ok}
 use Rattle.text.proofs.read.Goals as goal
 
 pub returns-then-text-gt-MOST_BYTES : goal.returns-then-text-gt-MOST_BYTES
 returns-then-text-gt-MOST_BYTES c =
     let a = c.args in
-    too_long (length a.table.now) a.text.now c.clear.new.room c.if-text-gt-MOST_BYTES.true c.clear.ensures
+    too-long (length a.table.now) a.text.now c.clear.new.room c.if-text-gt-MOST_BYTES.true c.clear.ensures
 
 pub returns-then-end-text : goal.returns-then-end-text
 returns-then-end-text c =
