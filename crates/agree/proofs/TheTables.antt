@@ -1,43 +1,22 @@
 -- Demand 2: the table built is THE graph, and a loop is refused as unfenced exactly when it is a cycle of the paper's words.
-use mathlib.Core.Path.{◌≡◌, refl, ap, subst}
+use mathlib.Core.Path.{◌≡◌, refl, subst}
 use mathlib.Core.Logic.Iff
 use mathlib.Core.Logic.{◌↔◌, inl, inr, ⊎_elim}
-use mathlib.Core.Option.{Option, none, some}
 use Prim.Native.Nat.{ℕ}
-use native.Mathlib.Omega.{arith}
 use mathlib.Core.List.{List, [], ◌∷◌, ◌++◌}
-use lib.ListN.{length}
 use Rattle.lists.specs.Lists.{Lowest}
 use Rattle.thread.specs.declared.Refusal.{Refusal}
 use Rattle.thread.specs.declared.Refusal.TheVariants as R
 use Rattle.thread.specs.Table.{line, instr_at, lines_of}
 use Rattle.checks.specs.Lines.{Unfenced, Cycle}
-use Rattle.checks.specs.Checks.{model_of}
 use Rattle.checks.specs.Given.{Condition, at_line, LowestLine, before_loops, GivenBy}
 use Rattle.checks.proofs.Given.{given-iff}
 use Rattle.checks.proofs.Cycles.{unfenced-cycle}
-use Rattle.graphs.specs.declared.Built.TheVariants as B
-use Rattle.graphs.specs.Build.{Result, refusal, refused, accepted, build}
-use Rattle.graphs.specs.TheGraph.{TheGraph}
-use Rattle.graphs.proofs.Given.{Accepted, accepted-when}
-use Rattle.graphs.proofs.Tables.{when-refused, when-accepted, the-built}
+use Rattle.graphs.proofs.Answers.{the-answered}
 use Rattle.agree.specs.Demands.{Demand2, Demand2Loops}
 
 pub demand2 : (m : ℕ) (t : List ℕ) (nodes edges : ℕ) → Demand2 m t nodes edges
-unfolding refused accepted
-demand2 m t nodes edges n e h = go (refusal m t nodes edges) refl
-  where
-    go : (o : Option Refusal) → refusal m t nodes edges ≡ o → TheGraph (model_of m) (instr_at t) n e (build m t nodes edges).nodes (build m t nodes edges).edges
-    go none f =
-        let a : Accepted m t nodes edges = accepted-when m t nodes edges f in
-        let g : (build m t nodes edges).answer ≡ B.Graph (length a.graph.nodes) (length a.graph.edges) = ap (λ (b : Result). b.answer) (when-accepted m t nodes edges a f) in
-        let p : length a.graph.nodes ≡ n = cc in
-        let q : length a.graph.edges ≡ e = cc in
-        rw (← p, ← q) (the-built m t nodes edges a f)
-    go (some r) f =
-        let g : (build m t nodes edges).answer ≡ B.Refused r = ap (λ (b : Result). b.answer) (when-refused m t nodes edges r f) in
-        let z : ◌≡◌ {A = ℕ} 0 1 = cc in
-        absurd (omega arith)
+demand2 = the-answered
 
 -- a condition that never holds gives nothing
 given-skip : (D : Condition) (Cs : List Condition) → ((q : Refusal) → D q → ⊥) → (r : Refusal) → GivenBy (D ∷ Cs) r ↔ GivenBy Cs r
