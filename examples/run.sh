@@ -8,9 +8,8 @@ set -eu
 here=$(cd "$(dirname "$0")" && pwd)
 root=$(dirname "$here")
 if [ $# = 0 ]; then
-    library=$("$root/library")
-    # shellcheck disable=SC2086
-    set -- $library
+    "$root/library" > /dev/null
+    set -- "$root/target/staticlib/libnardiplex.a"
 fi
 out=$root/target/examples
 mkdir -p "$out"

@@ -15,9 +15,8 @@ flags=
 seconds=${1:-0.5}
 [ $# = 0 ] || shift
 if [ $# = 0 ]; then
-    library=$("$root/library")
-    # shellcheck disable=SC2086
-    set -- $library
+    "$root/library" > /dev/null
+    set -- "$root/target/staticlib/libnardiplex.a"
 fi
 for file; do
     flags="$flags -C link-arg=$file"

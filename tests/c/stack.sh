@@ -6,9 +6,8 @@ set -eu
 here=$(cd "$(dirname "$0")" && pwd)
 root=$(dirname "$(dirname "$here")")
 if [ $# = 0 ]; then
-    library=$("$root/library")
-    # shellcheck disable=SC2086
-    set -- $library
+    "$root/library" > /dev/null
+    set -- "$root/target/staticlib/libnardiplex.a"
 fi
 mkdir -p "$root/target/c"
 # Bound at the start: the first call of memcpy would else bind it, on this stack.
