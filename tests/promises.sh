@@ -11,6 +11,7 @@
 #     written as equations and nothing else.
 # docs/DECISIONS.md may name it under "Promises: exceptions", one line each: - `crate::function`: grounds.
 # A row or an exception for what isn't there, or doesn't fall short, is a fault too, so both lists stay true.
+# What an impl gives for a function of a trait of these crates has the trait's promise, and is judged there.
 # A program's main is no public function: nobody can call it.
 cd "${1:-$(dirname "$0")/..}" || exit 2
 sources=$(find crates -path '*/out' -prune -o -path '*/src/*' -name '*.rt' -print | sort)
@@ -53,6 +54,8 @@ FILENAME == "docs/TRACE.md" {
     gsub(/\\"/, "", line)
     gsub(/"[^"]*"/, "\"\"", line)
     gsub(/\047(\\.|[^\047])\047/, "0", line)
+    # lifetimes
+    gsub(/\047[A-Za-z_]+ ?/, "", line)
     sub(/\/\/.*/, "", line)
     text[folder[2]] = text[folder[2]] line "\n"
 }
@@ -174,23 +177,30 @@ function judge(function_,    said) {
     else fault(function_ ": " said)
 }
 
+# Whether what an impl gives promises what a trait of these crates says, and nothing else; it is judged where the trait says it.
+function promised(bound, name,    f) {
+    if (bound == "" || requires != "" || ensures != "") return 0
+    for (f in row) if (index(f "$", "::" bound "::" name "$")) return 1
+    return 0
+}
+
 # A crate: functions marked pub, and those of a trait, which are public without the mark.
-function in_crate(called,    t, deep, public, owner, at, trait) {
+function in_crate(called,    t, deep, public, owner, at, trait, bound) {
     T = text[called]
     deep = 0; at = -1
     while ((t = token()) != "") {
         if (t == "pub") public = 1
         if (t == "impl" || t == "trait") {
-            trait = t == "trait"
+            trait = t == "trait"; owner = ""; bound = ""
             while ((t = token()) != "" && t != "{") {
-                if (t == "for") trait = 1
+                if (t == "for") { trait = 1; bound = owner }
                 owner = t
             }
             at = deep
         } else if (t == "fn") {
             public = public || (at >= 0 && trait)
             t = header()
-            if (public) judge(called "::" (at >= 0 ? owner "::" : "") name)
+            if (public && !(at >= 0 && promised(bound, name))) judge(called "::" (at >= 0 ? owner "::" : "") name)
         }
         if (t == "{") deep++
         if (t == "}" && --deep == at) at = -1

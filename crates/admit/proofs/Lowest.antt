@@ -1,24 +1,37 @@
 -- The lowest line that passes a test, looked for from line to line: what is left to look at.
 use mathlib.Core.Path.{◌≡◌, refl, sym, ap, subst, ◌∙◌}
-use mathlib.Core.Bool.{Bool, true, false, not}
-use mathlib.Core.Option.{Option, none, some, map, get_or}
-use Prim.Native.Nat.{ℕ, suc, ◌+◌, ◌-◌, ◌≤◌, ◌<◌}
+use mathlib.Core.Bool.{Bool, true, false, cond, not}
+use mathlib.Core.Option.{Option, none, some, map}
+use Prim.Native.Nat.{ℕ, zero, suc, ◌+◌, ◌-◌, ◌≤◌, ◌<◌}
 use native.Mathlib.Nat.{sub-zero}
 use native.Mathlib.Numerals.{add-one}
 use native.Mathlib.Omega.{arith}
 use mathlib.Core.List.{List}
-use lib.Dec.{T}
+use Rattle.std.specs.Prelude.{Some}
+use Rattle.std.specs.List.{find, range_with_len}
 use Rattle.lists.specs.Lists.{lowest_from, lowest}
-use Rattle.lists.proofs.Lists.{lowest-some, lowest-none}
+use Rattle.lists.specs.Options.{option_of}
 use Rattle.thread.specs.declared.Line.{Line}
 use Rattle.thread.specs.declared.Refusal.{Refusal}
 use Rattle.thread.specs.declared.Refusal.TheVariants as R
 use Rattle.thread.specs.Table.{line, instr_at, lines_of}
 use Rattle.checks.specs.Lines.{unfenced}
 use Rattle.checks.specs.Checks.{good_line, wrong_target, at_lowest, bad_field, bad_target, unfenced_loop}
-use Rattle.admit.specs.declared.Admission.{Admission}
-use Rattle.admit.specs.declared.Admission.TheVariants.{Accepted, Refused}
-use Rattle.admit.specs.Answer.{answer}
+use Rattle.std.specs.Prelude.{Ok, Err}
+use Rattle.admit.specs.Answer.{Answer, answer}
+
+-- what a search over numbers gives
+pub lowest_found : (p : ℕ → Bool) (n : ℕ) → find p (range_with_len 0 n) ≡ option_of (lowest p n)
+unfolding lowest lowest_from option_of
+lowest_found p n = on 0 n
+  where
+    on : (k n : ℕ) → find p (range_with_len k n) ≡ option_of (lowest_from p k n)
+    on k zero = refl
+    on k (suc n) = go (p k) (rw add-one (on (suc k) n))
+      where
+        go : (b : Bool) → find p (range_with_len (k + 1) n) ≡ option_of (lowest_from p (suc k) n) → cond b (Some k) (find p (range_with_len (k + 1) n)) ≡ option_of (elim b [ true ↦ some k | false ↦ lowest_from p (suc k) n ])
+        go true e = refl
+        go false e = e
 
 module _ (p : ℕ → Bool) (n : ℕ) where
   -- the lowest of the numbers from k to n
@@ -41,46 +54,31 @@ module _ (p : ℕ → Bool) (n : ℕ) where
   unfolding lowest_from
   lowest-end k h = let q : n - k ≡ 0 = omega arith in rw q
 
-  -- a lowest number, or n
-  pub found : (k : ℕ) → k ≡ get_or (lowest p n) n → k < n → T (p k)
-  found k e h = go (lowest p n) refl e
-    where
-      go : (o : Option ℕ) → lowest p n ≡ o → k ≡ get_or o n → T (p k)
-      go none f e = absurd (omega arith)
-      go (some j) f e = rw e (lowest-some p n j f).holds
-
-  pub none_found : (k : ℕ) → k ≡ get_or (lowest p n) n → n ≤ k → (j : ℕ) → j < n → T (p j) → ⊥
-  none_found k e h = go (lowest p n) refl e
-    where
-      go : (o : Option ℕ) → lowest p n ≡ o → k ≡ get_or o n → (j : ℕ) → j < n → T (p j) → ⊥
-      go none f e i l t = lowest-none p n f i l t
-      go (some j) f e i l t = omega (arith, (lowest-some p n j f).below)
-
 -- a check that refuses at the lowest line that fails
 module _ (r : Line → Refusal) (fails : Line → Bool) (n : ℕ) where
   abbrev test : ℕ → Bool
   test k = fails (line k)
 
-  abbrev given : Option ℕ → Admission
+  abbrev given : Option ℕ → Answer
   given o = answer (map (λ k. r (line k)) o)
 
   -- its answer, where no line below k fails
-  abbrev pub from_line : ℕ → Admission
+  abbrev pub from_line : ℕ → Answer
   from_line k = given (lowest_on test n k)
 
   from_start : answer (at_lowest r fails n) ≡ from_line 0
   unfolding at_lowest
   from_start = ap given (lowest_start test n)
 
-  module _ {a : Admission} (k : ℕ) (left : a ≡ from_line k) where
-    pub from-here : k < n → fails (line k) ≡ true → Refused (r (line k)) ≡ a
+  module _ {a : Answer} (k : ℕ) (left : a ≡ from_line k) where
+    pub from-here : k < n → fails (line k) ≡ true → Err (r (line k)) ≡ a
     unfolding answer
     from-here h e = sym (left ∙ ap given (lowest-here test n k h e))
 
     pub from_next : k < n → fails (line k) ≡ false → a ≡ from_line (k + 1)
     from_next h e = left ∙ ap given (lowest-next test n k h e)
 
-    pub from_end : n ≤ k → Accepted ≡ a
+    pub from_end : n ≤ k → Ok tt ≡ a
     unfolding answer
     from_end h = sym (left ∙ ap given (lowest-end test n k h))
 

@@ -1,19 +1,16 @@
 -- Marks: what is marked after more lines are, and how many lines are not done.
-use mathlib.Core.Path.{◌≡◌, refl, sym, ap, ◌∙◌}
+use mathlib.Core.Path.{◌≡◌, refl, ap, ◌∙◌}
 use mathlib.Core.Logic.{◌⊎◌, inl, inr, ⊎_elim}
 use mathlib.Core.Bool.{Bool, true, false, cond}
-use Prim.Native.Nat.{ℕ, zero, suc, ◌+◌, ◌<◌}
+use Prim.Native.Nat.{ℕ, zero, suc, ◌<◌}
 use native.Mathlib.Omega.{arith}
 use mathlib.Core.List.{List, [], ◌∷◌, Memᴰ}
 use lib.ListN.{length, get_or, set, replicate, length-set}
 use lib.Dec.{T}
 use Rattle.lists.specs.Lists.{All}
 use Rattle.thread.specs.declared.Line.{Line}
-use Rattle.thread.specs.declared.Instr.{Instr}
-use Rattle.thread.specs.declared.Instr.TheVariants as I
-use Rattle.thread.specs.Table.{line, next, Prog}
-use Rattle.checks.specs.Lines.{after, drains, follows, passes}
-use Rattle.admit.specs.Marks.{marked, mark_all, ways}
+use Rattle.thread.specs.Table.{line}
+use Rattle.admit.specs.Marks.{marked, mark_all}
 
 -- one place more is true
 set_keeps : (m : List Bool) (i j : ℕ) → T (get_or m j false) → T (get_or (set m i true) j false)
@@ -76,35 +73,3 @@ undone-less (true ∷ d) zero h f = absurd (f tt)
 undone-less (false ∷ d) zero h f = omega arith
 undone-less (true ∷ d) (suc i) h f = undone-less d i (omega arith) f
 undone-less (false ∷ d) (suc i) h f = omega (arith, undone-less d i (omega arith) f)
-
--- the lines after line l are marked, by the instruction that stands there
-module _ (m : List Bool) (l : Line) (i : Instr) where
-  pub mark-branch : {a : ℕ} {to : Line} {p q : List Bool} → i ≡ I.Branch a to → p ≡ set m to.0 true → q ≡ set p (l.0 + 1) true → q ≡ mark_all m (after l i)
-  unfolding mark_all after
-  mark-branch e d f = f ∙ rw (d, e)
-
-  pub mark-jump : {to : Line} {p : List Bool} → i ≡ I.Jump to → p ≡ set m to.0 true → p ≡ mark_all m (after l i)
-  unfolding mark_all after
-  mark-jump e d = d ∙ rw e
-
-  pub mark-return : i ≡ I.Return → m ≡ mark_all m (after l i)
-  unfolding mark_all after
-  mark-return e = rw e
-
-  pub mark-next : {p : List Bool} → next l ∷ [] ≡ after l i → p ≡ set m (l.0 + 1) true → p ≡ mark_all m (after l i)
-  unfolding mark_all
-  mark-next e d = d ∙ ap (mark_all m) e
-
--- and only where its instruction lets pass
-module _ (m : List Bool) (prog : Prog) (l : Line) {i : Instr} (at : i ≡ prog l) where
-  pub ways-all : {p : List Bool} → p ≡ mark_all m (after l i) → p ≡ mark_all m (ways true prog l)
-  unfolding ways follows
-  ways-all e = e ∙ ap (λ (j : Instr). mark_all m (after l j)) at
-
-  pub ways-none : drains i ≡ true → m ≡ mark_all m (ways false prog l)
-  unfolding ways passes mark_all
-  ways-none e = let q : drains (prog l) ≡ true = ap drains (sym at) ∙ e in rw q
-
-  pub ways-pass : {p : List Bool} → drains i ≡ false → p ≡ mark_all m (after l i) → p ≡ mark_all m (ways false prog l)
-  unfolding ways passes
-  ways-pass d e = let q : drains (prog l) ≡ false = ap drains (sym at) ∙ d in e ∙ ap (λ (j : Instr). mark_all m (after l j)) at ∙ rw q

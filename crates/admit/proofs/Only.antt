@@ -3,8 +3,7 @@ use mathlib.Core.Path.{◌≡◌}
 use Prim.Native.Nat.{ℕ}
 use mathlib.Core.List.{List}
 use Rattle.checks.specs.Checks.{admission}
-use Rattle.admit.specs.declared.Admission.{Admission}
-use Rattle.admit.specs.Answer.{answer}
+use Rattle.admit.specs.Answer.{Answer, answer}
 
-pub only : (m : ℕ) (t : List ℕ) (r q : Admission) → r ≡ answer (admission m t) → q ≡ answer (admission m t) → r ≡ q
+pub only : (m : ℕ) (t : List ℕ) (r q : Answer) → r ≡ answer (admission m t) → q ≡ answer (admission m t) → r ≡ q
 only m t r q d e = cc

@@ -7,7 +7,10 @@ use native.Mathlib.Omega.{arith}
 use mathlib.Core.List.{List, Memᴰ}
 use lib.ListN.{length, set, length-set, length-replicate}
 use lib.Dec.{T}
-use Rattle.lists.specs.Lists.{All, any}
+use Rattle.std.specs.Prelude as held
+use Rattle.std.specs.Prelude.{Some}
+use Rattle.lists.specs.Lists.{All, any, lowest}
+use Rattle.lists.specs.Options.{option_of}
 use Rattle.lists.proofs.Lists.{all-imp, all-at, any_at, any_some}
 use Rattle.lists.proofs.Tests.{is_true, is_false}
 use Rattle.explore.specs.Explore.{reach_start, reach_step}
@@ -16,7 +19,7 @@ use Rattle.thread.specs.Sizes.{most_lines}
 use Rattle.thread.specs.Table.{line}
 use Rattle.checks.specs.Lines.{Leads, leads}
 use Rattle.checks.proofs.Loops.{leads-step, arc-mem, Stays, leads-iff}
-use Rattle.admit.specs.Marks.{marked, no_marks, mark_all, lowest_open, From, Spread, Inside}
+use Rattle.admit.specs.Marks.{marked, no_marks, mark_all, is_open, From, Spread, Inside}
 use Rattle.admit.proofs.Marked.{set_cases, mark-length, mark-keeps, mark-marks, mark-cases, none-marked}
 use Rattle.admit.proofs.Open.{none_open}
 
@@ -50,11 +53,11 @@ module _ (out : Line → List Line) (n : ℕ) where
   }
 
   -- no line is left to do
-  pub partly-end : {m₀ m d : List Bool} {l : ℕ} → l ≡ lowest_open m d n → n ≤ l → Partly out n m₀ m d → Spread out m₀ m
-  partly-end {m₀} {m} {d} {l} e h p = record { sound = p.sound; complete = λ k f. reached (p.kept f.from f.start) f.way }
+  pub partly-end : {m₀ m d : List Bool} {r : held.Option ℕ} → r ≡ option_of (lowest (is_open m d) n) → ((l : ℕ) → r ≡ Some l → ⊥) → Partly out n m₀ m d → Spread out m₀ m
+  partly-end {m₀} {m} {d} f e p = record { sound = p.sound; complete = λ k f. reached (p.kept f.from f.start) f.way }
     where
       done : (k : Line) → T (marked m k) → T (marked d k)
-      done k t = none_open m d n l e h k.0 (p.inside k t) t
+      done k t = none_open m d n f e k.0 (p.inside k t) t
 
       reached : {k l : Line} → T (marked m k) → Leads out k l → T (marked m l)
       reached t reach_start = t

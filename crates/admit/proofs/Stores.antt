@@ -1,64 +1,40 @@
--- The seventeenth store line, looked for from line to line: what is left to look at.
-use mathlib.Core.Path.{◌≡◌, sym, ap, ◌∙◌}
-use mathlib.Core.Bool.{true, false, cond}
-use mathlib.Core.Option.{Option, none, some, map}
-use Prim.Native.Nat.{ℕ, suc, ◌+◌, ◌-◌, ◌≤◌, ◌<◌}
-use native.Mathlib.Nat.{sub-zero}
+-- The store lines, as a chain of iterators finds them.
+use mathlib.Core.Path.{◌≡◌, refl, ap, ◌∙◌}
+use mathlib.Core.Bool.{Bool, true, false, cond}
+use mathlib.Core.Option.{Option, none, some}
+use Prim.Native.Nat.{ℕ, zero, suc}
 use native.Mathlib.Numerals.{add-one}
-use native.Mathlib.Omega.{arith}
-use mathlib.Core.List.{List, ◌∷◌, ◌++◌}
+use mathlib.Core.List.{List, [], ◌∷◌, ◌++◌, map}
 use lib.ListN.{get_elem?}
+use Rattle.std.specs.List.{slice_get, filter, range_with_len}
 use Rattle.lists.specs.Lists.{listed, collect}
+use Rattle.lists.specs.Options.{option_of}
 use Rattle.thread.specs.declared.Line.{Line}
-use Rattle.thread.specs.declared.Refusal.TheVariants as R
-use Rattle.thread.specs.Sizes.{most_stores}
-use Rattle.thread.specs.Table.{line, Prog, instr_at, lines_of, is_store}
-use Rattle.checks.specs.Checks.{store_lines, too_many_stores}
-use Rattle.admit.specs.declared.Admission.{Admission}
-use Rattle.admit.specs.declared.Admission.TheVariants.{Accepted, Refused}
-use Rattle.admit.specs.Answer.{answer}
+use Rattle.thread.specs.Table.{line, Prog, is_store}
+use Rattle.checks.specs.Checks.{store_lines}
 
-module _ (prog : Prog) (n : ℕ) where
+got : {A : Type 0} (l : List A) (i : ℕ) → slice_get l i ≡ option_of (get_elem? l i)
+unfolding option_of
+got [] i = refl
+got (a ∷ l) zero = refl
+got (a ∷ l) (suc i) = got l i
+
+module _ (prog : Prog) where
+  abbrev stored : Line → Bool
+  stored l = is_store (prog l)
+
   abbrev store_at : ℕ → Option Line
-  store_at k = cond (is_store (prog (line k))) (some (line k)) none
+  store_at k = cond (stored (line k)) (some (line k)) none
 
-  -- the store lines from line k on
-  abbrev stores_on : ℕ → List Line
-  stores_on k = collect store_at k (n - k)
+  collected : (k n : ℕ) → filter stored (map line (range_with_len k n)) ≡ collect store_at k n
+  unfolding collect listed
+  collected k zero = refl
+  collected k (suc n) = go (stored (line k)) (rw add-one (collected (suc k) n))
+    where
+      go : (b : Bool) {ls more : List Line} → ls ≡ more → cond b (line k ∷ ls) ls ≡ listed (cond b (some (line k)) none) ++ more
+      go true e = ap (λ (ls : List Line). line k ∷ ls) e
+      go false e = e
 
-  abbrev given : Option Line → Admission
-  given o = answer (map R.TooManyStores o)
-
-  -- the answer, where `left` store lines more may come from line k on
-  abbrev pub from_line : ℕ → ℕ → Admission
-  from_line k left = given (get_elem? (stores_on k) left)
-
-  step : (k : ℕ) → k < n → stores_on k ≡ listed (store_at k) ++ stores_on (k + 1)
-  unfolding collect
-  step k h = let q : n - k ≡ suc (n - suc k) = omega arith in rw (add-one, q)
-
-  at_store : (k : ℕ) → k < n → is_store (prog (line k)) ≡ true → stores_on k ≡ line k ∷ stores_on (k + 1)
-  unfolding listed
-  at_store k h e = step k h ∙ rw e
-
-  module _ {a : Admission} (k left : ℕ) (on : a ≡ from_line k left) where
-    pub not-store : k < n → is_store (prog (line k)) ≡ false → a ≡ from_line (k + 1) left
-    unfolding listed
-    not-store h e = let q : stores_on k ≡ stores_on (k + 1) = step k h ∙ rw e in on ∙ ap (λ (ls : List Line). given (get_elem? ls left)) q
-
-    pub one_store : k < n → is_store (prog (line k)) ≡ true → (left ≡ 0 → ⊥) → a ≡ from_line (k + 1) (left - 1)
-    one_store h e f =
-        let q : left ≡ suc (left - 1) = omega arith in
-        on ∙ ap (λ (ls : List Line). given (get_elem? ls left)) (at_store k h e) ∙ ap (λ (i : ℕ). given (get_elem? (line k ∷ stores_on (k + 1)) i)) q
-
-    pub store-over : k < n → is_store (prog (line k)) ≡ true → left ≡ 0 → Refused (R.TooManyStores (line k)) ≡ a
-    unfolding answer
-    store-over h e f = sym (on ∙ ap (λ (ls : List Line). given (get_elem? ls left)) (at_store k h e) ∙ rw f)
-
-    pub no_more : n ≤ k → Accepted ≡ a
-    unfolding answer collect
-    no_more h = let q : n - k ≡ 0 = omega arith in sym (on ∙ rw q)
-
-pub from_start : (t : List ℕ) (n : ℕ) → n ≡ lines_of t → answer (too_many_stores t) ≡ from_line (instr_at t) n 0 most_stores
-unfolding too_many_stores store_lines
-from_start t n e = rw (e, sub-zero)
+  pub stores_got : (n i : ℕ) → slice_get (filter stored (map line (range_with_len 0 n))) i ≡ option_of (get_elem? (store_lines prog n) i)
+  unfolding store_lines
+  stores_got n i = got (filter stored (map line (range_with_len 0 n))) i ∙ ap (λ (ls : List Line). option_of (get_elem? ls i)) (collected 0 n)

@@ -8,7 +8,8 @@ use Rattle.lists.specs.Lists.{any}
 use Rattle.thread.specs.declared.Line.{Line}
 use Rattle.thread.specs.Table.{line, Prog, instr_at, is_store}
 use Rattle.checks.specs.Lines.{follows, passes, leads, unfenced}
-use Rattle.checks.proofs.Loops.{passes_stay}
+use Rattle.lists.proofs.Lists.{all_of}
+use Rattle.checks.proofs.Loops.{Stays, passes_stay}
 use Rattle.admit.specs.Marks.{marked, no_marks, mark_all, ways, Spread, Closed, Inside}
 use Rattle.admit.proofs.Reach.{Below, Kept, start-inside, spread-is}
 
@@ -16,10 +17,13 @@ module _ (t : List ℕ) (n : ℕ) (ok : Closed t n) where
   abbrev prog : Prog
   prog = instr_at t
 
+  stays : Stays (follows prog) n
+  stays l h = all_of (λ (k : Line). k.0 < n) (follows prog l) (λ k m. ok.stays l k h m)
+
   pub kept : (b : Bool) → Kept (ways b prog) n
   unfolding ways
-  kept true = record { few_lines = ok.lined.few_lines; stays = ok.stays }
-  kept false = record { few_lines = ok.lined.few_lines; stays = passes_stay prog n ok.stays }
+  kept true = record { few_lines = ok.lined.few_lines; stays = stays }
+  kept false = record { few_lines = ok.lined.few_lines; stays = passes_stay prog n stays }
 
   -- from the lines after line l, past neither fence nor cas
   module _ (l : Line) (h : l.0 < n) {m : List Bool} (start : m ≡ mark_all no_marks (ways true prog l)) where
@@ -28,7 +32,7 @@ module _ (t : List ℕ) (n : ℕ) (ok : Closed t n) where
 
     pub again-is : (r : List Bool) → Spread (ways false prog) m r → marked r l ≡ any (λ k. leads (passes prog) n k l) (follows prog l)
     unfolding ways
-    again-is r s = spread-is (kept false) (follows prog l) (ok.stays l h) r (rw start at s) l
+    again-is r s = spread-is (kept false) (follows prog l) (stays l h) r (rw start at s) l
 
   -- from line 0
   first_below : Below n (line 0 ∷ [])

@@ -1,19 +1,15 @@
 -- What `admit` answers: the refusal that the checks give, or that the table is accepted.
 use Rattle.std.proofs.Math.Option.{Option, none, some}
-use Rattle.std.specs.Prelude.{ℕ, List, [], ◌∷◌}
+use Rattle.std.specs.Prelude.{ℕ, ⊤, List, [], ◌∷◌, Result, Ok, Err}
 use Rattle.thread.specs.declared.Refusal.{Refusal}
 use Rattle.checks.specs.Checks.{bad_field, too_many_stores, bad_target, no_next, unfenced_loop}
-use Rattle.admit.specs.declared.Admission.{Admission}
-use Rattle.admit.specs.declared.Admission.TheVariants.{Accepted, Refused}
 
-unfoldable pub answer : Option Refusal → Admission
-answer none = Accepted
-answer (some r) = Refused r
+abbrev pub Answer : Type 0
+Answer = Result ⊤ Refusal
 
--- the first of two answers that refuses
-unfoldable pub first_refused : Admission → Admission → Admission
-first_refused Accepted b = b
-first_refused (Refused r) b = Refused r
+unfoldable pub answer : Option Refusal → Answer
+answer none = Ok tt
+answer (some r) = Err r
 
 -- 6 to 10, the checks of a table's lines
 abbrev pub line_checks : List ℕ → List (Option Refusal)

@@ -1,7 +1,6 @@
 -- Marks on lines, and the lines that can be reached from marked ones. The private functions of the loop check cite these.
 use Rattle.std.specs.Prelude.{◌≡◌, Bool, true, false, not, ◌&&◌, ℕ, ◌≤◌, ◌<◌, List, [], ◌∷◌, get_or, set, replicate, T}
-use Rattle.std.proofs.Math.Option
-use Rattle.lists.specs.Lists.{All, lowest}
+use mathlib.Core.List.{Memᴰ}
 use Rattle.thread.specs.declared.Line.{Line}
 use Rattle.thread.specs.Sizes.{most_lines}
 use Rattle.thread.specs.Table.{Prog, instr_at, lines_of}
@@ -25,13 +24,9 @@ unfolding follows passes
 ways true prog = follows prog
 ways false prog = passes prog
 
--- the lowest of n lines that is marked and not done; n where there is none
+-- line k is marked and not done
 unfoldable pub is_open : List Bool → List Bool → ℕ → Bool
 is_open m d k = get_or m k false && not (get_or d k false)
-
-unfoldable pub lowest_open : List Bool → List Bool → ℕ → ℕ
-unfolding lowest is_open
-lowest_open m d n = Option.get_or (lowest (is_open m d) n) n
 
 -- l can be reached from a marked line
 pub record From (out : Line → List Line) (m : List Bool) (l : Line) : Type 0 where
@@ -53,7 +48,7 @@ pub record Lined (t : List ℕ) (n : ℕ) : Type 0 where
 -- and its lines lead to each other alone
 pub record Closed (t : List ℕ) (n : ℕ) : Type 0 where
   pub lined : Lined t n
-  pub stays : (l : Line) → l.0 < n → All (λ (k : Line). k.0 < n) (follows (instr_at t) l)
+  pub stays : (l k : Line) → l.0 < n → Memᴰ k (follows (instr_at t) l) → k.0 < n
 
 -- marks on lines below n alone
 abbrev pub Inside : ℕ → List Bool → Type 0

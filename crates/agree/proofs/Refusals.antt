@@ -1,4 +1,5 @@
 -- Demand 1: what is refused by the builder and the two runs is what is given, and a refusal leaves zeros.
+use Rattle.std.specs.Prelude.{Ok, Err}
 use mathlib.Core.Path.{◌≡◌, refl, sym, ap, subst, ◌∙◌}
 use mathlib.Core.Logic.Iff
 use mathlib.Core.Logic.{◌↔◌, ◌⊎◌, inl, inr, ⊎_elim}
@@ -21,15 +22,13 @@ use Rattle.thread.specs.Numbers.{zeros}
 use Rattle.checks.specs.Checks.{admission}
 use Rattle.checks.specs.Given.{conditions, GivenBy}
 use Rattle.checks.proofs.Given.{given-iff}
-use Rattle.graphs.specs.declared.Built.TheVariants as B
-use Rattle.graphs.specs.Build.{Result, refusal, refused, accepted, build}
+use Rattle.graphs.specs.Build.{counted, Result, refusal, refused, accepted, build}
 use Rattle.graphs.specs.Given.{GivenBuild}
 use Rattle.graphs.proofs.Given.{given-build, given-build-only, accepted-when}
 use Rattle.graphs.proofs.Records.{collect-at}
 use Rattle.graphs.proofs.Tables.{when-refused, when-accepted}
-use Rattle.runs.specs.declared.Ended.{Ended}
-use Rattle.runs.specs.declared.Ended.TheVariants as E
-use Rattle.runs.specs.Run.{Stand, bad_threads, Bad, first_bad, threads_refused, end_of}
+use Rattle.runs.specs.declared.Unfinished.TheVariants as U
+use Rattle.runs.specs.Run.{Ended, Stand, bad_threads, Bad, first_bad, threads_refused, end_of}
 use Rattle.runs.specs.Start.{Start, table_of}
 use Rattle.runs.specs.Shown.{zero_state}
 use Rattle.buffered.specs.RunBuffered.{BufferedResult, stand_buffered, result_buffered, run_buffered}
@@ -39,17 +38,17 @@ use Rattle.agree.specs.Demands.{Demand1, GivenRun, Demand1Buffered, Demand1Gener
 -- The builder.
 
 module _ (m : ℕ) (t : List ℕ) (nodes edges : ℕ) where
-  built-when : refusal m t nodes edges ≡ none → (n : ℕ) × (e : ℕ) × ((build m t nodes edges).answer ≡ B.Graph n e)
+  built-when : refusal m t nodes edges ≡ none → (n : ℕ) × (e : ℕ) × ((build m t nodes edges).answer ≡ Ok (counted n e))
   unfolding accepted
   built-when e =
       let a = accepted-when m t nodes edges e in
       (length a.graph.nodes, length a.graph.edges, ap (λ (b : Result). b.answer) (when-accepted m t nodes edges a e))
 
-  refused-when : (r : Refusal) → refusal m t nodes edges ≡ some r → (build m t nodes edges).answer ≡ B.Refused r
+  refused-when : (r : Refusal) → refusal m t nodes edges ≡ some r → (build m t nodes edges).answer ≡ Err r
   unfolding refused
   refused-when r e = ap (λ (b : Result). b.answer) (when-refused m t nodes edges r e)
 
-  when-answered : (r : Refusal) → (build m t nodes edges).answer ≡ B.Refused r → refusal m t nodes edges ≡ some r
+  when-answered : (r : Refusal) → (build m t nodes edges).answer ≡ Err r → refusal m t nodes edges ≡ some r
   when-answered r h = go (refusal m t nodes edges) refl
     where
       go : (o : Option Refusal) → refusal m t nodes edges ≡ o → refusal m t nodes edges ≡ some r
@@ -68,7 +67,7 @@ demand1 m t nodes edges = record {
   built = λ n. go n (refusal m t nodes edges) refl;
 }
   where
-    go : ((r : Refusal) → GivenBuild m t nodes edges r → ⊥) → (o : Option Refusal) → refusal m t nodes edges ≡ o → (n : ℕ) × (e : ℕ) × ((build m t nodes edges).answer ≡ B.Graph n e)
+    go : ((r : Refusal) → GivenBuild m t nodes edges r → ⊥) → (o : Option Refusal) → refusal m t nodes edges ≡ o → (n : ℕ) × (e : ℕ) × ((build m t nodes edges).answer ≡ Ok (counted n e))
     go n none e = built-when m t nodes edges e
     go n (some r) e = absurd (n r ((given-build m t nodes edges r).0 e))
 
@@ -198,22 +197,22 @@ module _ (refusal : ℕ → Option Refusal) (count : ℕ) where
 
 -- The runs: one that ends otherwise, where no thread is refused, is refused exactly when a thread is.
 
-ended-iff : (o : Option Bad) (x : Ended) → ((b : Bad) → o ≡ some b → x ≡ E.Refused b.thread b.refusal) → (o ≡ none → (t : ℕ) (r : Refusal) → x ≡ E.Refused t r → ⊥)
-    → (t : ℕ) (r : Refusal) → (x ≡ E.Refused t r) ↔ (o ≡ some (bad t r))
+ended-iff : (o : Option Bad) (x : Ended) → ((b : Bad) → o ≡ some b → x ≡ Err (U.Refused b.thread b.refusal)) → (o ≡ none → (t : ℕ) (r : Refusal) → x ≡ Err (U.Refused t r) → ⊥)
+    → (t : ℕ) (r : Refusal) → (x ≡ Err (U.Refused t r)) ↔ (o ≡ some (bad t r))
 ended-iff none x h n t r = (λ e. absurd (n refl t r e), λ e. absurd (not_some e))
 ended-iff (some b) x h n t r = (λ e. same (h b refl) e, λ e. h (bad t r) e)
   where
-    same : x ≡ E.Refused b.thread b.refusal → x ≡ E.Refused t r → some b ≡ some (bad t r)
+    same : x ≡ Err (U.Refused b.thread b.refusal) → x ≡ Err (U.Refused t r) → some b ≡ some (bad t r)
     same f e =
         let p : b.thread ≡ t = cc in
         let q : b.refusal ≡ r = cc in
         λ i. some (record { thread = p i; refusal = q i })
 
-not-refused : {A : Type 0} (s : Stand A) (t : ℕ) (r : Refusal) → end_of s ≡ E.Refused t r → ⊥
+not-refused : {A : Type 0} (s : Stand A) (t : ℕ) (r : Refusal) → end_of s ≡ Err (U.Refused t r) → ⊥
 unfolding end_of
 not-refused s t r = go s.stopped
   where
-    go : (b : Bool) → cond b (E.Stopped s.steps) (E.Done s.steps) ≡ E.Refused t r → ⊥
+    go : (b : Bool) → cond b (Err (U.Stopped s.steps)) (Ok s.steps) ≡ Err (U.Refused t r) → ⊥
     go true e = let z : ◌≡◌ {A = ℕ} 0 1 = cc in omega arith
     go false e = let z : ◌≡◌ {A = ℕ} 0 1 = cc in omega arith
 
@@ -221,7 +220,7 @@ module _ (s : Start) where
   abbrev bad_buffered : Option Bad
   bad_buffered = threads_refused (λ k. admission s.model (table_of s k)) s.count
 
-  buffered-refused : (b : Bad) → bad_buffered ≡ some b → run_buffered s ≡ record { ended = E.Refused b.thread b.refusal; state = zero_state }
+  buffered-refused : (b : Bad) → bad_buffered ≡ some b → run_buffered s ≡ record { ended = Err (U.Refused b.thread b.refusal); state = zero_state }
   unfolding run_buffered
   buffered-refused b e = rw (e, run_buffered)
 
@@ -229,7 +228,7 @@ module _ (s : Start) where
   unfolding run_buffered result_buffered
   buffered-ran e = rw (e, run_buffered)
 
-  buffered-iff : (t : ℕ) (r : Refusal) → ((run_buffered s).ended ≡ E.Refused t r) ↔ (bad_buffered ≡ some (bad t r))
+  buffered-iff : (t : ℕ) (r : Refusal) → ((run_buffered s).ended ≡ Err (U.Refused t r)) ↔ (bad_buffered ≡ some (bad t r))
   buffered-iff = ended-iff bad_buffered (run_buffered s).ended
       (λ b e. ap (λ (x : BufferedResult). x.ended) (buffered-refused b e))
       (λ e t r f. not-refused (stand_buffered s) t r (sym (buffered-ran e) ∙ f))
@@ -258,7 +257,7 @@ module _ (s : Start) (rooms : Rooms) where
 
   abbrev zero_generated : Bad → GeneratedResult
   zero_generated b = record {
-    ended = E.Refused b.thread b.refusal;
+    ended = Err (U.Refused b.thread b.refusal);
     state = zero_state;
     nodes = rooms_after (node_room rooms) (λ t. []) 0;
     edges = rooms_after (edge_room rooms) (λ t. []) 0;
@@ -272,7 +271,7 @@ module _ (s : Start) (rooms : Rooms) where
   unfolding run_generated result_generated
   generated-ran e = rw (e, run_generated)
 
-  generated-iff : (t : ℕ) (r : Refusal) → ((run_generated s rooms).ended ≡ E.Refused t r) ↔ (bad_generated ≡ some (bad t r))
+  generated-iff : (t : ℕ) (r : Refusal) → ((run_generated s rooms).ended ≡ Err (U.Refused t r)) ↔ (bad_generated ≡ some (bad t r))
   generated-iff = ended-iff bad_generated (run_generated s rooms).ended
       (λ b e. ap (λ (x : GeneratedResult). x.ended) (generated-refused b e))
       (λ e t r f. not-refused (stand_generated s rooms) t r (sym (generated-ran e) ∙ f))

@@ -1,4 +1,5 @@
 -- Law L9: the demands are not empty. A refusal that is given, a graph that is built, threads that are accepted; and the lost edge itself.
+use Rattle.std.specs.Prelude.{Ok}
 use mathlib.Core.Path.{◌≡◌, refl}
 use Prim.Native.Nat.{ℕ, zero, suc, ◌<◌}
 use native.Mathlib.Omega.{arith}
@@ -14,7 +15,6 @@ use Rattle.graphs.specs.declared.Edge.{Edge}
 use Rattle.graphs.specs.Records.{node, node_at, edges_in}
 use Rattle.graphs.specs.Given.{GivenBuild}
 use Rattle.graphs.specs.TheGraph.{TheGraph, first_edges}
-use Rattle.runs.specs.declared.Ended.TheVariants as E
 use Rattle.runs.specs.Shown.{nobody}
 use Rattle.generated.specs.RunGenerated.{built_for, run_generated}
 use Rattle.agree.specs.Demands.{AllAccepted, Agree}
@@ -68,7 +68,7 @@ accepted-once = record { some_threads = omega arith; few_threads = omega arith; 
 pub agreed-once : Agree (start_of 1 two two schedule) rooms_of
 agreed-once = (all-demands.runs (start_of 1 two two schedule) rooms_of accepted-once).0
 
-pub lost-edge-taken : ((run_generated (start_of 1 two two schedule) rooms_of).ended ≡ E.Done 3)
+pub lost-edge-taken : ((run_generated (start_of 1 two two schedule) rooms_of).ended ≡ Ok 3)
     × ((get_or (run_generated (start_of 1 two two schedule) rooms_of).state.threads 0 nobody).count ≡ 1)
     × (get_or (get_or (run_generated (start_of 1 two two schedule) rooms_of).state.threads 0 nobody).names 0 9 ≡ 0)
     × (get_or (run_generated (start_of 1 two two schedule) rooms_of).state.memory 1 9 ≡ 1)

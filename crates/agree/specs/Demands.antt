@@ -1,5 +1,5 @@
 -- The three demands, as statements about the definitions of the builder and the two runs. Each is proved in proofs/Demands.antt.
-use Rattle.std.specs.Prelude.{◌≡◌, ◌↔◌, ◌⊎◌, ℕ, ◌*◌, ◌≤◌, ◌<◌, List, [], get_or, take}
+use Rattle.std.specs.Prelude.{Ok, Err, ◌≡◌, ◌↔◌, ◌⊎◌, ℕ, ◌*◌, ◌≤◌, ◌<◌, List, [], get_or, take}
 use Rattle.std.proofs.Math.Option.{some}
 use Rattle.lists.specs.Lists.{Lowest}
 use Rattle.thread.specs.declared.Line.{Line}
@@ -12,11 +12,10 @@ use Rattle.thread.specs.Table.{line as to_line}
 use Rattle.checks.specs.Lines.{Cycle}
 use Rattle.checks.specs.Checks.{admission, model_of}
 use Rattle.checks.specs.Given.{before_loops, conditions, GivenBy, LowestLine}
-use Rattle.graphs.specs.declared.Built.TheVariants as B
-use Rattle.graphs.specs.Build.{build, build_answer}
+use Rattle.graphs.specs.Build.{counted, build, build_answer}
 use Rattle.graphs.specs.Given.{GivenBuild}
 use Rattle.graphs.specs.TheGraph.{TheGraph}
-use Rattle.runs.specs.declared.Ended.TheVariants as E
+use Rattle.runs.specs.declared.Unfinished.TheVariants as U
 use Rattle.runs.specs.Run.{run_answer}
 use Rattle.runs.specs.Start.{Start, table_of}
 use Rattle.runs.specs.Shown.{ShownThread, nobody, zero_state}
@@ -27,10 +26,10 @@ use Rattle.generated.specs.RunGenerated.{Rooms, node_room, edge_room, built_for,
 
 -- the builder: r is answered exactly when it is given, and then both rooms are zero; where none is given a graph is answered
 pub record Demand1 (m : ℕ) (t : List ℕ) (nodes edges : ℕ) : Type 0 where
-  pub refused : (r : Refusal) → ((build m t nodes edges).answer ≡ B.Refused r) ↔ GivenBuild m t nodes edges r
+  pub refused : (r : Refusal) → ((build m t nodes edges).answer ≡ Err r) ↔ GivenBuild m t nodes edges r
   pub one : (r q : Refusal) → GivenBuild m t nodes edges r → GivenBuild m t nodes edges q → r ≡ q
   pub zeroed : (r : Refusal) → GivenBuild m t nodes edges r → ((build m t nodes edges).nodes ≡ zeros nodes) × ((build m t nodes edges).edges ≡ zeros edges)
-  pub built : ((r : Refusal) → GivenBuild m t nodes edges r → ⊥) → (n : ℕ) × (e : ℕ) × ((build m t nodes edges).answer ≡ B.Graph n e)
+  pub built : ((r : Refusal) → GivenBuild m t nodes edges r → ⊥) → (n : ℕ) × (e : ℕ) × ((build m t nodes edges).answer ≡ Ok (counted n e))
 
 -- thread t is refused with r: 14 names thread 0; else t is the lowest thread of the count for which a refusal is given
 abbrev pub GivenRun : (ℕ → Refusal → Type 0) → ℕ → ℕ → Refusal → Type 0
@@ -40,24 +39,24 @@ GivenRun given count t r =
 
 -- the runs: a thread is refused exactly when that is given, and then all is zero
 pub record Demand1Buffered (s : Start) : Type 0 where
-  pub refused : (t : ℕ) (r : Refusal) → ((run_buffered s).ended ≡ E.Refused t r) ↔ GivenRun (λ k. GivenBy (conditions s.model (table_of s k))) s.count t r
-  pub zeroed : (t : ℕ) (r : Refusal) → (run_buffered s).ended ≡ E.Refused t r → (run_buffered s).state ≡ zero_state
+  pub refused : (t : ℕ) (r : Refusal) → ((run_buffered s).ended ≡ Err (U.Refused t r)) ↔ GivenRun (λ k. GivenBy (conditions s.model (table_of s k))) s.count t r
+  pub zeroed : (t : ℕ) (r : Refusal) → (run_buffered s).ended ≡ Err (U.Refused t r) → (run_buffered s).state ≡ zero_state
 
 pub record Demand1Generated (s : Start) (rooms : Rooms) : Type 0 where
-  pub refused : (t : ℕ) (r : Refusal) → ((run_generated s rooms).ended ≡ E.Refused t r) ↔ GivenRun (λ k. GivenBuild s.model (table_of s k) (node_room rooms k) (edge_room rooms k)) s.count t r
-  pub zeroed : (t : ℕ) (r : Refusal) → (run_generated s rooms).ended ≡ E.Refused t r
+  pub refused : (t : ℕ) (r : Refusal) → ((run_generated s rooms).ended ≡ Err (U.Refused t r)) ↔ GivenRun (λ k. GivenBuild s.model (table_of s k) (node_room rooms k) (edge_room rooms k)) s.count t r
+  pub zeroed : (t : ℕ) (r : Refusal) → (run_generated s rooms).ended ≡ Err (U.Refused t r)
       → ((run_generated s rooms).state ≡ zero_state)
       × ((k : ℕ) → k < most_threads → (get_or (run_generated s rooms).nodes k [] ≡ zeros (node_room rooms k)) × (get_or (run_generated s rooms).edges k [] ≡ zeros (edge_room rooms k)))
 
 -- the eight rooms where no thread is refused, at 15 too: the graphs stay, "rooms beyond it become zero"
 abbrev pub Demand1Rooms : Start → Rooms → Type 0
-Demand1Rooms s rooms = ((t : ℕ) (r : Refusal) → (run_generated s rooms).ended ≡ E.Refused t r → ⊥) → (k : ℕ) → k < most_threads
+Demand1Rooms s rooms = ((t : ℕ) (r : Refusal) → (run_generated s rooms).ended ≡ Err (U.Refused t r) → ⊥) → (k : ℕ) → k < most_threads
     → (k < s.count → (get_or (run_generated s rooms).nodes k [] ≡ (built_for s rooms k).nodes) × (get_or (run_generated s rooms).edges k [] ≡ (built_for s rooms k).edges))
     × (s.count ≤ k → (get_or (run_generated s rooms).nodes k [] ≡ zeros (node_room rooms k)) × (get_or (run_generated s rooms).edges k [] ≡ zeros (edge_room rooms k)))
 
 -- 2. "The table built is THE store buffer graph: every reachable node, every edge, no others, numbered in one way."
 abbrev pub Demand2 : ℕ → List ℕ → ℕ → ℕ → Type 0
-Demand2 m t nodes edges = (n e : ℕ) → (build m t nodes edges).answer ≡ B.Graph n e → TheGraph (model_of m) (instr_at t) n e (build m t nodes edges).nodes (build m t nodes edges).edges
+Demand2 m t nodes edges = (n e : ℕ) → (build m t nodes edges).answer ≡ Ok (counted n e) → TheGraph (model_of m) (instr_at t) n e (build m t nodes edges).nodes (build m t nodes edges).edges
 
 -- no fault of 2 to 9
 abbrev pub NoEarlier : ℕ → List ℕ → Type 0

@@ -3,8 +3,7 @@ use Rattle.std.specs.Prelude.{ℕ, ◌*◌, List, [], ◌∷◌, ◌++◌, get_o
 use Rattle.thread.specs.Sizes.{node_width, edge_width, registers, variables}
 use Rattle.thread.specs.Numbers.{zeros}
 use Rattle.graphs.specs.Build.{BuildAnswer, build, build_answer}
-use Rattle.runs.specs.declared.Ended.{Ended}
-use Rattle.runs.specs.Run.{run_answer}
+use Rattle.runs.specs.Run.{Ended, run_answer}
 use Rattle.runs.specs.Start.{Start}
 use Rattle.runs.specs.Shown.{ShownThread, Shown, nobody}
 use Rattle.buffered.specs.RunBuffered.{run_buffered}

@@ -2,6 +2,7 @@
 #![tactic(auto)]
 
 ghost use Rattle.std.specs.Prelude.{[], ◌∷◌};
+ghost use Rattle.lists.specs.Slices.{contents};
 ghost use Rattle.both.specs.Returned.{BothRun};
 
 #[derive(Clone, Copy)]
@@ -14,10 +15,7 @@ pub struct TwoRuns {
 pub fn both(
     model: u32,
     threads: u32,
-    t0: &[u32],
-    t1: &[u32],
-    t2: &[u32],
-    t3: &[u32],
+    tables: &[&[u32]; 4],
     n0: &mut [u32],
     e0: &mut [u32],
     n1: &mut [u32],
@@ -30,13 +28,11 @@ pub fn both(
     registers: [u32; 64],
     schedule: &[u32],
 ) -> TwoRuns
-    ensures { BothRun model threads (t0.now ∷ t1.now ∷ t2.now ∷ t3.now ∷ []) memory registers schedule.now (n0.old ∷ n1.old ∷ n2.old ∷ n3.old ∷ []) (e0.old ∷ e1.old ∷ e2.old ∷ e3.old ∷ []) (n0.new ∷ n1.new ∷ n2.new ∷ n3.new ∷ []) (e0.new ∷ e1.new ∷ e2.new ∷ e3.new ∷ []) result.buffered result.generated }
+    ensures { BothRun model threads (contents tables.now) memory registers schedule.now (n0.old ∷ n1.old ∷ n2.old ∷ n3.old ∷ []) (e0.old ∷ e1.old ∷ e2.old ∷ e3.old ∷ []) (n0.new ∷ n1.new ∷ n2.new ∷ n3.new ∷ []) (e0.new ∷ e1.new ∷ e2.new ∷ e3.new ∷ []) result.buffered result.generated }
 {
-    let buffered = run_buffered::run_buffered(
-        model, threads, t0, t1, t2, t3, memory, registers, schedule,
-    );
+    let buffered = run_buffered::run_buffered(model, threads, tables, memory, registers, schedule);
     let generated = run_generated::run_generated(
-        model, threads, t0, t1, t2, t3, n0, e0, n1, e1, n2, e2, n3, e3, memory, registers, schedule,
+        model, threads, tables, n0, e0, n1, e1, n2, e2, n3, e3, memory, registers, schedule,
     );
     TwoRuns {
         buffered,

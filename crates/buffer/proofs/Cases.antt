@@ -1,12 +1,12 @@
 -- The code's step by its cases: what each test leads to.
-use mathlib.Core.Path.{◌≡◌, refl}
+use mathlib.Core.Path.{◌≡◌, refl, sym, ap}
 use mathlib.Core.Logic.{◌≢◌}
-use mathlib.Core.Bool.{Bool, true, false, cond}
+use mathlib.Core.Option.{Option, none, some, bind}
 use Prim.Native.Nat.{ℕ, ◌+◌, ◌-◌, ◌≤◌, ◌<◌, min}
-use native.Mathlib.Omega.{arith}
 use mathlib.Core.List.{List}
-use lib.ListN.{length, set, take, length-take}
-use lib.Dec.{ltb}
+use lib.ListN.{length, set}
+use Rattle.std.specs.Prelude.{Some, None}
+use Rattle.lists.specs.Options.{option_of}
 use Rattle.lists.proofs.Tests.{lt-true, lt-false, eq-false}
 use Rattle.thread.specs.declared.Line.{Line}
 use Rattle.thread.specs.declared.Model.{Model}
@@ -14,24 +14,19 @@ use Rattle.thread.specs.declared.Instr.{Instr}
 use Rattle.thread.specs.Numbers.{◌!◌}
 use Rattle.pending.specs.Places.{place_for}
 use Rattle.pending.specs.Pending.{put_in, take_out}
-use Rattle.pending.proofs.Places.{place-le}
 use Rattle.shown.specs.declared.ThreadState.{ThreadState}
 use Rattle.chosen.specs.declared.Change.{Change}
-use Rattle.chosen.specs.declared.Change.TheVariants as C
 use Rattle.chosen.specs.Decide.{thread_of, waiting_vars, decided}
+use Rattle.buffer.specs.declared.Moved.{Moved}
 use Rattle.buffer.specs.declared.Turned.{Turned}
-use Rattle.buffer.specs.States.{stood, went, moved_to, stays, moves, with_pair, without_pair}
+use Rattle.buffer.specs.States.{moves, Left, left, left_by, with_pair, without_pair}
 use Rattle.buffer.specs.Step.{waits, puts, applied, stepped, turned}
-
--- a place below the limit
-pub place-lt : (m : Model) (names : List ℕ) (count x : ℕ) → count < 16 → place_for m (take count names) x < 16
-place-lt m names count x h = let g = place-le m (take count names) x in omega (arith, g, simp length-take at g)
 
 module _ (m : Model) (M : List ℕ) (c : ThreadState) (l : Line) (x v : ℕ) where
   abbrev place : ℕ
   place = place_for m (waiting_vars c) x
 
-  pub waits-full : 16 ≤ c.count → stays M c ≡ waits m M c l x v
+  pub waits-full : 16 ≤ c.count → none ≡ waits m M c l x v
   unfolding waits
   waits-full h = rw (lt-false c.count 16 h, waits)
 
@@ -41,7 +36,7 @@ module _ (m : Model) (M : List ℕ) (c : ThreadState) (l : Line) (x v : ℕ) whe
   waits-room h i e vs ws p q = rw (lt-true c.count 16 h, waits, p, q, e)
 
 module _ (M : List ℕ) (c : ThreadState) (i : ℕ) where
-  pub puts-nothing : min c.count 16 ≤ i → stays M c ≡ puts M c i
+  pub puts-nothing : min c.count 16 ≤ i → none ≡ puts M c i
   unfolding puts
   puts-nothing h = rw (lt-false i (min c.count 16) h, puts)
 
@@ -51,34 +46,38 @@ module _ (M : List ℕ) (c : ThreadState) (i : ℕ) where
   unfolding puts without_pair
   puts-pair h vs ws N a b p q f g n = rw (lt-true i (min c.count 16) h, puts, p, q, n, f, g)
 
--- a step in lent lists: not taken, and taken
-pub stood-at : (t : Turned) (l : Line) (n : ℕ) (M regs names values : List ℕ) → t ≡ stood l n → moved_to t M regs names values ≡ stays M (thread_of l n regs names values)
-stood-at t l n M regs names values e = λ i. moved_to (e i) M regs names values
+-- what a turn answers says whether there was a step, and what it leaves in the lent lists is what the step leaves
+module _ (M : List ℕ) (c : ThreadState) (M' regs names values : List ℕ) where
+  pub left-none : (o : Option Moved) → left None M' regs names values ≡ left_by o M c → o ≡ none
+  left-none none e = refl
+  left-none (some m) e = let z = ap (λ (l : Left). l.answer) e in cc
 
-pub taken-to : (t : Turned) (l : Line) (n : ℕ) (M M' regs regs' names values : List ℕ) → t ≡ went l n → M ≡ M' → regs ≡ regs'
-    → moved_to t M regs names values ≡ moves M' (thread_of l n regs' names values)
-taken-to t l n M M' regs regs' names values e m r = λ i. moved_to (e i) (m i) (r i) names values
+  pub left-some : (o : Option Moved) (t : Turned) → left (Some t) M' regs names values ≡ left_by o M c → o ≡ some (record { memory = M'; core = thread_of t.line t.count regs names values })
+  left-some none t e = let z = ap (λ (l : Left). l.answer) e in cc
+  left-some (some m) t e =
+      let z = ap (λ (l : Left). l.answer) e in
+      let q : record { line = m.core.line; count = m.core.count } ≡ t = cc in
+      let k = sym e in
+      λ i. some (record { memory = (k i).memory; core = thread_of (q i).line (q i).count (k i).registers (k i).names (k i).values })
 
-if-still : (b : Bool) (N : List ℕ) (d : ThreadState) (M : List ℕ) (c : ThreadState) → (cond b (moves N d) (stays M c)).ok ≡ false → cond b (moves N d) (stays M c) ≡ stays M c
-if-still true N d M c e = cc
-if-still false N d M c e = refl
+-- a change that was decided on is made, and else there is no step
+decided-none : (d : Option Change) (f : Change → Option Moved) → None ≡ option_of d → none ≡ bind d f
+unfolding option_of bind
+decided-none none f e = refl
+decided-none (some x) f e = cc
 
-applied-still : (m : Model) (M : List ℕ) (c : ThreadState) (d : Change) → (applied d m M c).ok ≡ false → applied d m M c ≡ stays M c
-unfolding applied waits puts with_pair without_pair
-applied-still m M c C.Nothing e = refl
-applied-still m M c (C.Go l) e = cc
-applied-still m M c (C.Register l r v) e = cc
-applied-still m M c (C.Wait l x v) e = if-still (ltb c.count 16) M (with_pair c l (place_for m (waiting_vars c) x) x v) M c e
-applied-still m M c (C.Swap l r x v) e = cc
-applied-still m M c (C.Put i) e = if-still (ltb i (min c.count 16)) (set M (c.names ! i) (c.values ! i)) (without_pair c i) M c e
+decided-some : (d : Option Change) (f : Change → Option Moved) (x : Change) → Some x ≡ option_of d → f x ≡ bind d f
+unfolding option_of bind
+decided-some none f x e = cc
+decided-some (some y) f x e = let q : x ≡ y = cc in ap f q
 
 -- the 16 places of names and values
 module _ (m : Model) (instr : Instr) (choice : ℕ) (M : List ℕ) (c : ThreadState) where
-  pub turned-names : length c.names ≢ 16 → stays M c ≡ turned m instr choice M c
+  pub turned-names : length c.names ≢ 16 → none ≡ turned m instr choice M c
   unfolding turned
   turned-names n = rw (eq-false (length c.names) 16 n, turned)
 
-  pub turned-values : length c.names ≡ 16 → length c.values ≢ 16 → stays M c ≡ turned m instr choice M c
+  pub turned-values : length c.names ≡ 16 → length c.values ≢ 16 → none ≡ turned m instr choice M c
   unfolding turned
   turned-values e n = rw (e, eq-false (length c.values) 16 n, turned)
 
@@ -86,7 +85,14 @@ module _ (m : Model) (instr : Instr) (choice : ℕ) (M : List ℕ) (c : ThreadSt
   unfolding turned
   turned-step e f = rw (e, f, turned)
 
-  -- where there is no step all is as before
-  pub stepped-still : (stepped m instr choice M c).ok ≡ false → stepped m instr choice M c ≡ stays M c
+  pub stepped-none : None ≡ option_of (decided m instr choice M c) → none ≡ stepped m instr choice M c
   unfolding stepped
-  stepped-still e = applied-still m M c (decided m instr choice M c) e
+  stepped-none e = decided-none (decided m instr choice M c) (λ d. applied d m M c) e
+
+  pub stepped-some : (d : Change) → Some d ≡ option_of (decided m instr choice M c) → applied d m M c ≡ stepped m instr choice M c
+  unfolding stepped
+  stepped-some d e = decided-some (decided m instr choice M c) (λ d. applied d m M c) d e
+
+  -- where there is no step all is as before
+  pub stepped-still : stepped m instr choice M c ≡ none → left_by (stepped m instr choice M c) M c ≡ left None M c.registers c.names c.values
+  stepped-still e = ap (λ (o : Option Moved). left_by o M c) e

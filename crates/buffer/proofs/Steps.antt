@@ -2,7 +2,7 @@
 use mathlib.Core.Path.{◌≡◌, refl, sym, ap, ◌∙◌}
 use mathlib.Core.Bool.{Bool, true, false, cond}
 use mathlib.Core.Option
-use mathlib.Core.Option.{Option, none, some, Option-elim}
+use mathlib.Core.Option.{Option, none, some, Option-elim, bind}
 use Prim.Native.Nat.{ℕ, zero, suc, ◌+◌, ◌-◌, ◌≤◌, ◌<◌, min}
 use native.Mathlib.Nat.{mod-eq_of_lt}
 use native.Mathlib.Omega.{arith}
@@ -31,17 +31,16 @@ use Rattle.pending.proofs.Discipline.{map-put, map-left}
 use Rattle.chosen.specs.declared.Change.{Change}
 use Rattle.chosen.specs.declared.Change.TheVariants as C
 use Rattle.buffer.specs.declared.Moved.{Moved}
-use Rattle.buffer.specs.States.{val_of, pairs, buffered_of, core_of, stays, moves, with_pair, without_pair}
-use Rattle.chosen.specs.Decide.{following, waiting_vars, seen_by, drained_change, program_change, put_change, decided}
+use Rattle.buffer.specs.States.{val_of, pairs, buffered_of, core_of, moves, with_pair, without_pair}
+use Rattle.chosen.specs.Decide.{following, waiting_vars, seen_by, drained_change, cas_change, program_change, put_change, decided}
 use Rattle.buffer.specs.Step.{waits, puts, applied, stepped}
 use Rattle.buffer.proofs.Cases.{waits-full, waits-room, puts-pair}
 use Rattle.buffer.proofs.Filled.{filled-taken, put-filled, take-filled}
 
 -- a step of the rules, as the code answers it
-unfoldable pub moved_of : List ℕ → Buffered → Option (In Buffered) → Moved
+unfoldable pub moved_of : Option (In Buffered) → Option Moved
 unfolding core_of
-moved_of M b none = stays M (core_of b)
-moved_of M b (some s) = moves s.memory (core_of s.own)
+moved_of o = Option.map (λ s. record { memory = s.memory; core = core_of s.own }) o
 
 pub following-next : (l : Line) → l.0 + 1 < word → following l ≡ next l
 unfolding following add32
@@ -146,7 +145,7 @@ module _ (m : Model) (M : List ℕ) (b : Buffered) (few : length b.waiting ≤ 1
     waits_there room =
         sym (waits-room m M (core_of b) l p.var p.val (core-len room) place (ap (λ (vs : List ℕ). place_for m vs p.var) (sym vars-are)) (put_in place p.var (core_of b).names) (put_in place p.val (core_of b).values) refl refl)
 
-    waits-more : Dec (length w < 16) → waits m M (core_of b) l p.var p.val ≡ moved_of M b (fitting 16 (some (record { memory = M; own = more })))
+    waits-more : Dec (length w < 16) → waits m M (core_of b) l p.var p.val ≡ moved_of (fitting 16 (some (record { memory = M; own = more })))
     unfolding fitting moved_of
     waits-more (yes room) =
         let e : leb (length (put_at place p w)) 16 ≡ true = le-true (length (put_at place p w)) 16 (rw (more-length w few place p place_in) (omega arith)) in
@@ -156,7 +155,7 @@ module _ (m : Model) (M : List ℕ) (b : Buffered) (few : length b.waiting ≤ 1
         rw e (sym (waits-full m M (core_of b) l p.var p.val (core-full (omega arith))))
 
     -- a pair more waits, where there is a place for it
-    waits-is : waits m M (core_of b) l p.var p.val ≡ moved_of M b (fitting 16 (at M l b.registers (add_wait var_of m w p)))
+    waits-is : waits m M (core_of b) l p.var p.val ≡ moved_of (fitting 16 (at M l b.registers (add_wait var_of m w p)))
     unfolding at
     waits-is = rw (add-place var_of m w p) (waits-more (dec_lt (length w) 16))
 
@@ -184,7 +183,7 @@ module _ (m : Model) (M : List ℕ) (b : Buffered) (few : length b.waiting ≤ 1
     unfolding core_of
     core-val = at_place w few val_of refl i h
 
-    puts-is : puts M (core_of b) i ≡ moved_of M b (fitting 16 (some (put_pair M b.line b.registers (taken_at nothing w i))))
+    puts-is : puts M (core_of b) i ≡ moved_of (fitting 16 (some (put_pair M b.line b.registers (taken_at nothing w i))))
     unfolding fitting moved_of put_pair without_pair
     puts-is =
         let e : leb (length (take i w ++ drop (suc i) w)) 16 ≡ true = le-true (length (take i w ++ drop (suc i) w)) 16 (rw (less-length w few i h) (omega arith)) in
@@ -192,54 +191,61 @@ module _ (m : Model) (M : List ℕ) (b : Buffered) (few : length b.waiting ≤ 1
         let core = sym (puts-pair M (core_of b) i (core-in g) (take_out i 0 (core_of b).names) (take_out i 0 (core_of b).values) (set M (get_or w i nothing).var (get_or w i nothing).val) (get_or w i nothing).var (get_or w i nothing).val refl refl (sym core-var) (sym core-val) refl) in
         rw e (core ∙ ap (moves (set M (get_or w i nothing).var (get_or w i nothing).val)) less-core)
 
+  -- what a change, if there is one, leaves is what a step of the rules, if there is one, leaves
+  abbrev Is : Option Change → Option (In Buffered) → Type 0
+  Is d o = bind d (λ d. applied d m M (core_of b)) ≡ moved_of (fitting 16 o)
+
   put-at : (o : Option ℕ) → Holds (λ i. i < length (map var_of w)) o
-      → applied (Option-elim o C.Nothing C.Put) m M (core_of b) ≡ moved_of M b (fitting 16 (Option.map (put_pair M b.line b.registers) (Option.map (taken_at nothing w) o)))
-  unfolding applied Option-elim fitting moved_of
+      → Is (Option.map C.Put o) (Option.map (put_pair M b.line b.registers) (Option.map (taken_at nothing w) o))
+  unfolding applied bind fitting moved_of
   put-at none h = refl
   put-at (some i) h = puts-is i (rw length-map at h)
 
-  put_is : (x : ℕ) → applied (put_change m x (core_of b)) m M (core_of b) ≡ moved_of M b (fitting 16 (Option.map (put_pair M b.line b.registers) (ready_for var_of m x w)))
+  put_is : (x : ℕ) → Is (put_change m x (core_of b)) (Option.map (put_pair M b.line b.registers) (ready_for var_of m x w))
   unfolding put_change
   put_is x =
-      ap (λ (vs : List ℕ). applied (Option-elim (ready_at m vs x) C.Nothing C.Put) m M (core_of b)) vars-are
+      ap (λ (vs : List ℕ). bind (Option.map C.Put (ready_at m vs x)) (λ d. applied d m M (core_of b))) vars-are
       ∙ put-at (ready_at m (map var_of w) x) (ready-lt m (map var_of w) x)
-      ∙ ap (λ (o : Option (Ready Pair)). moved_of M b (fitting 16 (Option.map (put_pair M b.line b.registers) o))) (sym (ready-place var_of nothing m x w))
+      ∙ ap (λ (o : Option (Ready Pair)). moved_of (fitting 16 (Option.map (put_pair M b.line b.registers) o))) (sym (ready-place var_of nothing m x w))
 
   -- each kind of change
-  abbrev Is : Change → Option (In Buffered) → Type 0
-  Is d o = applied d m M (core_of b) ≡ moved_of M b (fitting 16 o)
-
-  goes : (l : Line) → Is (C.Go l) (at M l b.registers w)
-  unfolding applied moved_of core_of at
+  goes : (l : Line) → Is (some (C.Go l)) (at M l b.registers w)
+  unfolding applied bind moved_of core_of at
   goes l = rw (fits M l b.registers)
 
-  sets : (l : Line) (r v : ℕ) → Is (C.Register l r v) (at M l (set b.registers r v) w)
-  unfolding applied moved_of core_of at
+  sets : (l : Line) (r v : ℕ) → Is (some (C.Register l r v)) (at M l (set b.registers r v) w)
+  unfolding applied bind moved_of core_of at
   sets l r v = rw (fits M l (set b.registers r v))
 
-  stores : (l : Line) (p : Pair) → Is (C.Wait l p.var p.val) (at M l b.registers (add_wait var_of m w p))
-  unfolding applied
+  stores : (l : Line) (p : Pair) → Is (some (C.Wait l p.var p.val)) (at M l b.registers (add_wait var_of m w p))
+  unfolding applied bind
   stores l p = waits-is l p
 
-  swaps : (l : Line) (r x v : ℕ) → Is (C.Swap l r x v) (at (set M x v) l (set b.registers r 1) w)
-  unfolding applied moved_of core_of at
+  swaps : (l : Line) (r x v : ℕ) → Is (some (C.Swap l r x v)) (at (set M x v) l (set b.registers r 1) w)
+  unfolding applied bind moved_of core_of at
   swaps l r x v = rw (fits (set M x v) l (set b.registers r 1))
 
-  no_step : Is C.Nothing none
-  unfolding applied moved_of fitting
+  no_step : Is none none
+  unfolding moved_of bind fitting
   no_step = refl
 
-  if-is : (t : Bool) (d e : Change) (o q : Option (In Buffered)) → Is d o → Is e q → Is (cond t d e) (cond t o q)
-  if-is true d e o q g h = g
-  if-is false d e o q g h = h
+  -- a branch: to the one line or to the other
+  goes-if : (t : Bool) (l to : Line) → Is (some (C.Go (cond t l to))) (cond t (at M l b.registers w) (at M to b.registers w))
+  goes-if true l to = goes l
+  goes-if false l to = goes to
 
-  waits-nothing : (u : List Pair) (d : Change) (o : Option (In Buffered)) → Is d o → Is (cond (eqb (length u) 0) d C.Nothing) (drained u o none)
-  unfolding drained applied moved_of fitting
+  -- a cas
+  cas-if : (t : Bool) (l : Line) (r x v : ℕ) → Is (some (cond t (C.Swap l r x v) (C.Register l r 0))) (cond t (at (set M x v) l (set b.registers r 1) w) (at M l (set b.registers r 0) w))
+  cas-if true l r x v = swaps l r x v
+  cas-if false l r x v = sets l r 0
+
+  waits-nothing : (u : List Pair) (d : Change) (o : Option (In Buffered)) → Is (some d) o → Is (cond (eqb (length u) 0) (some d) none) (drained u o none)
+  unfolding drained
   waits-nothing [] d o g = g
-  waits-nothing (p ∷ u) d o g = rw (eq-false (suc (length u)) 0 (λ e. omega arith))
+  waits-nothing (p ∷ u) d o g = rw (eq-false (suc (length u)) 0 (λ e. omega arith)) no_step
 
   -- "passes when nothing waits"
-  drained-is : (d : Change) (o : Option (In Buffered)) → Is d o → Is (drained_change (core_of b) d) (drained w o none)
+  drained-is : (d : Change) (o : Option (In Buffered)) → Is (some d) o → Is (drained_change (core_of b) d) (drained w o none)
   unfolding core_of
   drained-is d o g = waits-nothing w d o g
 
@@ -249,7 +255,7 @@ module _ (m : Model) (M : List ℕ) (b : Buffered) (few : length b.waiting ≤ 1
     on = following-next b.line short
 
     program-is : (i : Instr) → Is (program_change i M (core_of b)) (program_step m i M b.line b.registers w)
-    unfolding program_change program_step core_of
+    unfolding program_change program_step cas_change core_of
     program-is (I.Set r v) = rw on (sets (next b.line) r v)
     program-is (I.Copy r s) = rw on (sets (next b.line) r (b.registers ! s))
     program-is (I.Add r s t) = rw on (sets (next b.line) r (add32 (b.registers ! s) (b.registers ! t)))
@@ -259,20 +265,14 @@ module _ (m : Model) (M : List ℕ) (b : Buffered) (few : length b.waiting ≤ 1
     program-is (I.StoreC x v) = rw on (stores (next b.line) (record { var = x; val = v }))
     program-is I.Fence = rw on (drained-is (C.Go (next b.line)) (at M (next b.line) b.registers w) (goes (next b.line)))
     program-is (I.Cas r x s t) =
-        let l = next b.line in
         let R = b.registers in
-        rw on
-        (drained-is _ _
-        (if-is (eqb (M ! x) (R ! s)) (C.Swap l r x (R ! t)) (C.Register l r 0) (at (set M x (R ! t)) l (set R r 1) w) (at M l (set R r 0) w) (swaps l r x (R ! t)) (sets l r 0)))
-    program-is (I.Branch r to) =
-        let l = next b.line in
-        let R = b.registers in
-        rw on (if-is (eqb (R ! r) 0) (C.Go l) (C.Go to) (at M l R w) (at M to R w) (goes l) (goes to))
+        rw on (drained-is _ _ (cas-if (eqb (M ! x) (R ! s)) (next b.line) r x (R ! t)))
+    program-is (I.Branch r to) = rw on (goes-if (eqb (b.registers ! r) 0) (next b.line) to)
     program-is (I.Jump to) = goes to
     program-is I.Return = no_step
 
     -- one step, whatever the choice
-    pub step_is : (prog : Prog) (c : ℕ) → stepped m (prog b.line) c M (core_of b) ≡ moved_of M b (placed_step most_waiting m prog c (record { memory = M; own = b }))
+    pub step_is : (prog : Prog) (c : ℕ) → stepped m (prog b.line) c M (core_of b) ≡ moved_of (placed_step most_waiting m prog c (record { memory = M; own = b }))
     unfolding stepped decided placed_step buffered_step
     step_is prog zero = program-is (prog b.line)
     step_is prog (suc x) = put_is x

@@ -1,12 +1,13 @@
 -- A buffered thread in code: 16 places for pairs, variables and values apart, unused places 0.
-use Rattle.std.specs.Prelude.{true, false, ℕ, ◌+◌, ◌-◌, List, [], ◌∷◌, map, length, set, take}
+use mathlib.Core.Option as maybe
+use mathlib.Core.Option.{none, some}
+use Rattle.std.specs.Prelude.{ℕ, ◌+◌, ◌-◌, List, [], ◌∷◌, map, length, set, take, Option, Some, None}
 use Rattle.thread.specs.declared.Line.{Line}
 use Rattle.thread.specs.Sizes.{most_waiting}
 use Rattle.thread.specs.Numbers.{filled}
 use Rattle.pending.specs.Pending.{put_in, take_out}
 use Rattle.buffered.specs.Machine.{Pair, var_of, Buffered}
 use Rattle.shown.specs.declared.ThreadState.{ThreadState}
-use Rattle.chosen.specs.Decide.{thread_of}
 use Rattle.buffer.specs.declared.Moved.{Moved}
 use Rattle.buffer.specs.declared.Turned.{Turned}
 
@@ -36,25 +37,25 @@ core_of b =
       count = length b.waiting;
     }
 
--- no step was taken: the thread's line and count are as before
-abbrev pub stood : Line → ℕ → Turned
-stood l n = record { ok = false; line = l; count = n }
-
--- a step was taken: the thread's line and count after it
-abbrev pub went : Line → ℕ → Turned
-went l n = record { ok = true; line = l; count = n }
-
--- what a turn answers and leaves in the lent lists, as one value
-abbrev pub moved_to : Turned → List ℕ → List ℕ → List ℕ → List ℕ → Moved
-moved_to t M regs names values = record { ok = t.ok; memory = M; core = thread_of t.line t.count regs names values }
-
--- no such step: all is as before
-abbrev pub stays : List ℕ → ThreadState → Moved
-stays M c = record { ok = false; memory = M; core = c }
-
 -- a step: memory and thread after it
-abbrev pub moves : List ℕ → ThreadState → Moved
-moves M c = record { ok = true; memory = M; core = c }
+abbrev pub moves : List ℕ → ThreadState → maybe.Option Moved
+moves M c = some (record { memory = M; core = c })
+
+-- what a turn answers and what it leaves in the lent lists, as one value
+pub record Left : Type 0 where
+  pub answer : Option Turned
+  pub memory : List ℕ
+  pub registers : List ℕ
+  pub names : List ℕ
+  pub values : List ℕ
+
+abbrev pub left : Option Turned → List ℕ → List ℕ → List ℕ → List ℕ → Left
+left t M regs names values = record { answer = t; memory = M; registers = regs; names = names; values = values }
+
+-- after a step the thread's line and count, and the rest in the lists; where there is none nothing, and in the lists memory and thread as before
+abbrev pub left_by : maybe.Option Moved → List ℕ → ThreadState → Left
+left_by none M c = left None M c.registers c.names c.values
+left_by (some m) M c = left (Some (record { line = m.core.line; count = m.core.count })) m.memory m.core.registers m.core.names m.core.values
 
 -- at another line, and with v in register r
 abbrev pub at_line : ThreadState → Line → ThreadState

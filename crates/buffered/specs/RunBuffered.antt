@@ -1,11 +1,10 @@
 -- The run of buffered threads: its answer and the state it shows, for every model, count, tables, start and schedule.
 use Rattle.std.proofs.Math.Option.{none, some}
-use Rattle.std.specs.Prelude.{ℕ, [], map}
+use Rattle.std.specs.Prelude.{Err, ℕ, [], map}
 use Rattle.thread.specs.Table.{line, instr_at}
 use Rattle.checks.specs.Checks.{admission, model_of}
-use Rattle.runs.specs.declared.Ended.{Ended}
-use Rattle.runs.specs.declared.Ended.TheVariants as E
-use Rattle.runs.specs.Run.{Stand, items, run, threads_refused, end_of}
+use Rattle.runs.specs.declared.Unfinished.TheVariants as U
+use Rattle.runs.specs.Run.{Ended, Stand, items, run, threads_refused, end_of}
 use Rattle.runs.specs.Start.{Start, table_of, registers_of, start_world}
 use Rattle.runs.specs.Shown.{Waited, ShownThread, Shown, shown_thread, shown_state, zero_state}
 use Rattle.buffered.specs.Machine.{Pair, Buffered, buffered_step}
@@ -37,6 +36,6 @@ unfoldable pub run_buffered : Start → BufferedResult
 unfolding threads_refused admission stand_buffered result_buffered
 run_buffered s =
     elim (threads_refused (λ t. admission s.model (table_of s t)) s.count) [
-      | some b ↦ record { ended = E.Refused b.thread b.refusal; state = zero_state }
+      | some b ↦ record { ended = Err (U.Refused b.thread b.refusal); state = zero_state }
       | none ↦ result_buffered (stand_buffered s)
     ]

@@ -4,9 +4,7 @@
 ghost use Rattle.std.specs.Prelude.{◌≤◌};
 
 use builder::build;
-use graphs::Built;
 use std::io;
-use thread::{number_of, place_of};
 
 fn print(rt: &impl Print, number: u64, place: u64, nodes: u64, edges: u64) -> io::Result<()> {
     println!(rt; "{number}\t{place}\t{nodes}\t{edges}")
@@ -17,8 +15,8 @@ fn show(rt: &impl Print, model: u32, table: &[u32]) -> io::Result<()> {
     let mut nodes = [1u32; 73728];
     let mut edges = [1u32; 210000];
     match build(model, table, &mut nodes, &mut edges) {
-        Built::Graph(n, e) => print(rt, 0, 0, n as u64, e as u64),
-        Built::Refused(refusal) => print(rt, number_of(refusal), place_of(refusal), 0, 0),
+        Ok(built) => print(rt, 0, 0, built.nodes as u64, built.edges as u64),
+        Err(refusal) => print(rt, refusal.number(), refusal.place(), 0, 0),
     }
 }
 
@@ -35,10 +33,8 @@ fn put(table: &mut [u32], line: usize, kind: u32, field: u32) {
 fn eleven(table: &mut [u32], from: usize)
     requires { from ≤ 2 }
 {
-    let mut x: u32 = 0;
-    while x < 11 {
+    for x in 0..11u32 {
         put(table, from + x as usize, 6, x);
-        x += 1;
     }
     put(table, from + 11, 11, 0);
 }
@@ -47,11 +43,9 @@ fn eleven(table: &mut [u32], from: usize)
 fn fenced(table: &mut [u32], stores: usize)
     requires { stores ≤ 17 }
 {
-    let mut i: usize = 0;
-    while i < stores {
+    for i in 0..stores {
         put(table, 2 * i, 6, 0);
         put(table, 2 * i + 1, 7, 0);
-        i += 1;
     }
     put(table, 2 * stores, 11, 0);
 }

@@ -4,57 +4,76 @@
 ghost use Rattle.std.specs.Prelude.{◌≡◌, ◌∷◌};
 ghost use Rattle.decimal.specs.Decimal.{decimal};
 ghost use Rattle.bytes_out.specs.Page.{page, put, puts, cleared, tab};
+ghost use Rattle.bytes_out.specs.Lent.{page_of};
 
-const TAB: u8 = 9;
+// "parted by one tab, each line ends in a line feed"
+pub const TAB: u8 = 9;
 
-// one byte at place `at`, if there is room; answers the next place: one more than the area is long once a byte was lost
-pub fn put_byte(area: &mut [u8], at: usize, byte: u8) -> usize
-    ensures { page area.new result ≡ put (page area.old at) byte }
-{
-    if at < area.len() {
-        area[at] = byte;
-        return at + 1;
+pub const LINE_FEED: u8 = 10;
+
+// a lent area, and the next place on it: one more than the area is long once a byte was lost
+#[derive(Drop)]
+pub struct Page<'a> {
+    pub area: &'a mut [u8],
+    pub at: usize,
+}
+
+impl Page<'_> {
+    // one byte, if there is room
+    #[tactic(auto, unfolding(crate::specs::Page::put))]
+    pub fn put_byte(&mut self, byte: u8)
+        ensures same_area { self.new.area.ghost_name ≡ self.old.area.ghost_name }
+        ensures put { page_of self.new ≡ put (page_of self.old) byte }
+    {
+        if self.at < self.area.len() {
+            self.area[self.at] = byte;
+            self.at += 1;
+        } else {
+            self.at = self.area.len() + 1;
+        }
     }
-    area.len() + 1
-}
 
-pub fn put_bytes(area: &mut [u8], at: usize, bytes: &[u8]) -> usize
-    ensures { page area.new result ≡ puts (page area.old at) bytes.now }
-{
-    let mut next = at;
-    let mut i: usize = 0;
-    while i < bytes.len() {
-        next = put_byte(area, next, bytes[i]);
-        i += 1;
+    #[tactic(auto, using(crate::proofs::Pages::puts_rest, crate::proofs::Pages::puts_end))]
+    pub fn put_bytes(&mut self, bytes: &[u8])
+        ensures same_area { self.new.area.ghost_name ≡ self.old.area.ghost_name }
+        ensures put { page_of self.new ≡ puts (page_of self.old) bytes.now }
+    {
+        for byte in bytes {
+            self.put_byte(*byte);
+        }
     }
-    next
-}
 
-pub fn put_decimal(area: &mut [u8], at: usize, n: u64) -> usize
-    ensures { page area.new result ≡ puts (page area.old at) (decimal n) }
-{
-    if n < 10 {
-        return put_byte(area, at, b'0' + n as u8);
+    #[tactic(auto, using(crate::proofs::Pages::puts_small, crate::proofs::Pages::puts_large))]
+    pub fn put_decimal(&mut self, n: u64)
+        ensures same_area { self.new.area.ghost_name ≡ self.old.area.ghost_name }
+        ensures put { page_of self.new ≡ puts (page_of self.old) (decimal n) }
+    {
+        if n < 10 {
+            self.put_byte(b'0' + n as u8);
+        } else {
+            self.put_decimal(n / 10);
+            self.put_byte(b'0' + (n % 10) as u8);
+        }
     }
-    let next = put_decimal(area, at, n / 10);
-    put_byte(area, next, b'0' + (n % 10) as u8)
-}
 
-// a field behind others: a tab and the number
-pub fn put_field(area: &mut [u8], at: usize, n: u64) -> usize
-    ensures { page area.new result ≡ puts (page area.old at) (tab ∷ decimal n) }
-{
-    let next = put_byte(area, at, TAB);
-    put_decimal(area, next, n)
-}
+    // a field behind others: a tab and the number
+    #[tactic(auto, using(crate::proofs::Pages::puts_first))]
+    pub fn put_field(&mut self, n: u64)
+        ensures same_area { self.new.area.ghost_name ≡ self.old.area.ghost_name }
+        ensures put { page_of self.new ≡ puts (page_of self.old) (tab ∷ decimal n) }
+    {
+        self.put_byte(TAB);
+        self.put_decimal(n);
+    }
 
-// zeros from place `from` to the end
-pub fn clear(area: &mut [u8], from: usize)
-    ensures { area.new ≡ cleared area.old from }
-{
-    let mut i = from;
-    while i < area.len() {
-        area[i] = 0;
-        i += 1;
+    // zeros from the next place to the end
+    #[tactic(auto, using(crate::proofs::Pages::clear_rest, crate::proofs::Pages::clear_end))]
+    pub fn clear(&mut self)
+        ensures same_area { self.new.area.ghost_name ≡ self.old.area.ghost_name }
+        ensures cleared { page_of self.new ≡ page (cleared self.old.area.now self.old.at) self.old.at }
+    {
+        if self.at < self.area.len() {
+            self.area[self.at..].fill(0);
+        }
     }
 }

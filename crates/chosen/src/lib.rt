@@ -1,19 +1,18 @@
 // What a choice of a buffered thread changes: decided from lent lists, of which only the few numbers that matter are read.
 #![tactic(auto)]
 
-ghost use Rattle.std.specs.Prelude.{◌≡◌, cond, take, eqb};
-ghost use Rattle.std.proofs.Math.Option.{Option-elim};
+ghost use Rattle.std.specs.Prelude.{◌≡◌, take};
+ghost use Rattle.std.specs.Option.{option_map_or};
+ghost use Rattle.lists.specs.Options.{option_of};
 ghost use Rattle.thread.specs.Numbers.{◌!◌};
 ghost use Rattle.pending.specs.Places.{last_for};
-ghost use Rattle.chosen.specs.Decide.{thread_of, following, program_change, decided};
+ghost use Rattle.chosen.specs.Decide.{thread_lent, following, cas_change, program_change, decided};
 
-use pending::Found;
 use thread::{Instr, Line, Model, number};
 
 // what a step changes: the next line, with a register, a pair that waits, or register and memory of a cas; or the pair at a place reaches memory
 #[derive(Clone, Copy)]
 pub enum Change {
-    Nothing,
     Go(Line),
     Register(Line, u32, u32),
     Wait(Line, u32, u32),
@@ -21,95 +20,90 @@ pub enum Change {
     Put(usize),
 }
 
-#[tactic(auto, unfolding(crate::specs::Decide::following))]
-fn following_line(l: Line) -> Line
-    ensures { result ≡ following l }
-{
-    Line(thread::add32(l.0, 1))
+// a thread whose numbers are lent: the first `count` names and values wait
+#[derive(Clone, Copy)]
+pub struct Lent<'a> {
+    pub line: Line,
+    pub count: u32,
+    pub registers: &'a [u32],
+    pub names: &'a [u32],
+    pub values: &'a [u32],
 }
 
-fn if_equal(a: u32, b: u32, x: Change, y: Change) -> Change
-    ensures { result ≡ cond (eqb a b) x y }
-{
-    if a == b { x } else { y }
-}
+impl Lent<'_> {
+    #[tactic(auto, unfolding(crate::specs::Decide::following))]
+    fn following(&self) -> Line
+        ensures { result ≡ following self.now.line }
+    {
+        Line(thread::add32(self.line.0, 1))
+    }
 
-// the newest waiting value for `x`, else memory
-fn seen(count: u32, memory: &[u32], names: &[u32], values: &[u32], x: u32) -> u32
-    ensures { result ≡ Option-elim (last_for (take count names.now) x) (memory.now ! x) (λ i. values.now ! i) }
-{
-    match pending::last_for(names, count as usize, x) {
-        Found::At(i) => number(values, i),
-        Found::Nothing => number(memory, x as usize),
+    // the value of a register
+    fn register(&self, r: u32) -> u32
+        ensures { result ≡ self.now.registers.now ! r }
+    {
+        number(self.registers, r as usize)
+    }
+
+    // the newest waiting value for `x`, else memory
+    #[tactic(auto, unfolding(lists::specs::Options::option_of))]
+    fn seen(&self, memory: &[u32], x: u32) -> u32
+        ensures { result ≡ option_map_or (λ i. self.now.values.now ! i) (option_of (last_for (take self.now.count self.now.names.now) x)) (memory.now ! x) }
+    {
+        pending::last_for(self.names, self.count as usize, x).map_or_else(
+            || number(memory, x as usize),
+            |i| number(self.values, i),
+        )
+    }
+
+    // a cas that passes: when variable `x` equals register `s` it becomes register `t` and register `r` 1; else register `r` becomes 0
+    #[tactic(auto, unfolding(crate::specs::Decide::cas_change))]
+    fn cas(&self, memory: &[u32], r: u32, x: u32, s: u32, t: u32) -> Change
+        ensures { result ≡ cas_change (following self.now.line) r x s t memory.now self.now.registers.now }
+    {
+        let on = self.following();
+        if number(memory, x as usize) == self.register(s) {
+            Change::Swap(on, r, x, self.register(t))
+        } else {
+            Change::Register(on, r, 0)
+        }
+    }
+
+    // the program step, if there is one now: fence and cas pass when nothing waits
+    #[tactic(auto, unfolding(lists::specs::Options::option_of, crate::specs::Decide::program_change, crate::specs::Decide::seen_by))]
+    fn program_change(&self, instr: Instr, memory: &[u32]) -> Option<Change>
+        ensures { result ≡ option_of (program_change instr memory.now (thread_lent self.now)) }
+    {
+        let on = self.following();
+        let change = match instr {
+            Instr::Set(r, v) => Change::Register(on, r, v),
+            Instr::Copy(r, s) => Change::Register(on, r, self.register(s)),
+            Instr::Add(r, s, t) => {
+                Change::Register(on, r, thread::add32(self.register(s), self.register(t)))
+            }
+            Instr::Sub(r, s, t) => {
+                Change::Register(on, r, thread::sub32(self.register(s), self.register(t)))
+            }
+            Instr::Load(r, x) => Change::Register(on, r, self.seen(memory, x)),
+            Instr::StoreR(x, r) => Change::Wait(on, x, self.register(r)),
+            Instr::StoreC(x, v) => Change::Wait(on, x, v),
+            Instr::Fence if self.count == 0 => Change::Go(on),
+            Instr::Cas(r, x, s, t) if self.count == 0 => self.cas(memory, r, x, s, t),
+            Instr::Branch(r, _) if self.register(r) == 0 => Change::Go(on),
+            Instr::Branch(_, to) | Instr::Jump(to) => Change::Go(to),
+            Instr::Fence | Instr::Cas(..) | Instr::Return => return None,
+        };
+        Some(change)
     }
 }
 
-// the program step
-#[tactic(auto, unfolding(crate::specs::Decide::program_change, crate::specs::Decide::seen_by))]
-fn program_change(
-    instr: Instr,
-    line: Line,
-    count: u32,
-    memory: &[u32],
-    regs: &[u32],
-    names: &[u32],
-    values: &[u32],
-) -> Change
-    ensures { result ≡ program_change instr memory.now (thread_of line count regs.now names.now values.now) }
-{
-    let on = following_line(line);
-    match instr {
-        Instr::Set(r, v) => Change::Register(on, r, v),
-        Instr::Copy(r, s) => Change::Register(on, r, number(regs, s as usize)),
-        Instr::Add(r, s, t) => {
-            let sum = thread::add32(number(regs, s as usize), number(regs, t as usize));
-            Change::Register(on, r, sum)
-        }
-        Instr::Sub(r, s, t) => {
-            let rest = thread::sub32(number(regs, s as usize), number(regs, t as usize));
-            Change::Register(on, r, rest)
-        }
-        Instr::Load(r, x) => Change::Register(on, r, seen(count, memory, names, values, x)),
-        Instr::StoreR(x, r) => Change::Wait(on, x, number(regs, r as usize)),
-        Instr::StoreC(x, v) => Change::Wait(on, x, v),
-        Instr::Fence => if_equal(count, 0, Change::Go(on), Change::Nothing),
-        Instr::Cas(r, x, s, t) => {
-            let swap = Change::Swap(on, r, x, number(regs, t as usize));
-            let here = number(memory, x as usize);
-            let want = number(regs, s as usize);
-            let cas = if_equal(here, want, swap, Change::Register(on, r, 0));
-            if_equal(count, 0, cas, Change::Nothing)
-        }
-        Instr::Branch(r, to) => if_equal(
-            number(regs, r as usize),
-            0,
-            Change::Go(on),
-            Change::Go(to),
-        ),
-        Instr::Jump(to) => Change::Go(to),
-        Instr::Return => Change::Nothing,
-    }
-}
-
-// what a choice changes: 0 is the program step, 1 + x the waiting store to x reaching memory
-pub fn decide(
-    model: Model,
-    instr: Instr,
-    choice: u32,
-    line: Line,
-    count: u32,
-    memory: &[u32],
-    regs: &[u32],
-    names: &[u32],
-    values: &[u32],
-) -> Change
-    ensures { result ≡ decided model instr choice memory.now (thread_of line count regs.now names.now values.now) }
+// what a choice changes, if the thread has it now: 0 is the program step, 1 + x the waiting store to x reaching memory
+#[tactic(auto, unfolding(lists::specs::Options::option_of, crate::specs::Decide::decided, crate::specs::Decide::put_change))]
+pub fn decide(model: Model, instr: Instr, choice: u32, memory: &[u32], own: &Lent) -> Option<Change>
+    ensures { result ≡ option_of (decided model instr choice memory.now (thread_lent own.now)) }
 {
     if choice == 0 {
-        return program_change(instr, line, count, memory, regs, names, values);
+        return own.program_change(instr, memory);
     }
-    match pending::ready_for(model, names, count as usize, choice - 1) {
-        Found::At(i) => Change::Put(i),
-        Found::Nothing => Change::Nothing,
-    }
+    pending::ready_for(model, own.names, own.count as usize, choice - 1).map(Change::Put)
 }

@@ -1,29 +1,27 @@
 -- Reading a number digit by digit, and what a number that is read has been written as.
 use mathlib.Core.Path.{◌≡◌, refl, sym, ap, ◌∙◌}
 use mathlib.Core.Bool.{Bool, true, false, cond, ◌&&◌}
-use mathlib.Core.Option.{Option, none, some}
+use mathlib.Core.Option.{none, some}
 use Prim.Native.Nat.{ℕ, suc, ◌+◌, ◌-◌, ◌*◌, ◌≤◌, ◌<◌}
 use native.Mathlib.Omega.{arith}
 use native.Mathlib.Numerals.{add-one}
 use mathlib.Core.List.{List, [], ◌∷◌}
 use lib.ListN.{length, get_or, drop, drop_of_length-le}
 use lib.Seq.{drop-cons}
-use lib.Dec.{leb}
-use Rattle.lists.proofs.Tests.{le-true, le-false, true-le, is_true, is_false, true-T, eq-false}
+use lib.Dec.{eqb, leb}
+use mathlib.Core.Logic.{◌⊎◌, inl, inr, ◌≢◌}
+use Rattle.lists.proofs.Tests.{le-true, le-false, true-le, is_true, true-T, eq-false, true-eq, false-eq}
 use Rattle.lists.proofs.Lists.{not_some}
 use Rattle.decimal.specs.Decimal.{decimal, value_from, value, is_digit, all_digits, numeral, most, read_from, read_number}
-use Rattle.decimal.specs.declared.Number.{Number}
-use Rattle.decimal.specs.declared.Number.TheVariants as N
-use Rattle.decimal.specs.Number.{number_or}
-use Rattle.decimal.proofs.Decimal.{Digit, test-digit, digit-test, value-decimal, numeral-decimal, decimal-numeral, decimal-length, decimal-digits, all-test}
+use Rattle.decimal.proofs.Decimal.{value-decimal, numeral-decimal, decimal-numeral, decimal-length, decimal-digits, all-test}
 
-read-digit : (a d : ℕ) (l : List ℕ) → Digit d → read_from a (d ∷ l) ≡ read_from (a * 10 + (d - 48)) l
+read-digit : (a d : ℕ) (l : List ℕ) → is_digit d ≡ true → read_from a (d ∷ l) ≡ read_from (a * 10 + (d - 48)) l
 unfolding read_from all_digits value_from
-read-digit a d l h = rw (is_true (is_digit d) (digit-test d h))
+read-digit a d l h = rw h
 
-read-other : (a d : ℕ) (l : List ℕ) → (Digit d → ⊥) → read_from a (d ∷ l) ≡ none
+read-other : (a d : ℕ) (l : List ℕ) → is_digit d ≡ false → read_from a (d ∷ l) ≡ none
 unfolding read_from all_digits
-read-other a d l h = rw (is_false (is_digit d) (λ t. h (test-digit d t)))
+read-other a d l h = rw h
 
 value_grows : (a : ℕ) (l : List ℕ) → a ≤ value_from a l
 unfolding value_from
@@ -44,14 +42,14 @@ read-end a h = rw (le-true a most h)
 
 -- place i of the digits l, behind the number a
 module _ (l : List ℕ) (i a : ℕ) where
-  pub other_at : i < length l → (Digit (get_or l i 0) → ⊥) → read_from a (drop i l) ≡ none
+  pub other_at : i < length l → is_digit (get_or l i 0) ≡ false → read_from a (drop i l) ≡ none
   other_at h n = rw (drop-cons l i 0 h) (read-other a (get_or l i 0) (drop (suc i) l) n)
 
-  pub digit_at : i < length l → Digit (get_or l i 0) → read_from (a * 10 + (get_or l i 0 - 48)) (drop (i + 1) l) ≡ read_from a (drop i l)
-  digit_at h d = rw (add-one, drop-cons l i 0 h) (sym (read-digit a (get_or l i 0) (drop (suc i) l) d))
+  pub digit_at : i < length l → is_digit (get_or l i 0) ≡ true → read_from a (drop i l) ≡ read_from (a * 10 + (get_or l i 0 - 48)) (drop (i + 1) l)
+  digit_at h d = rw (add-one, drop-cons l i 0 h) (read-digit a (get_or l i 0) (drop (suc i) l) d)
 
-  pub large-at : i < length l → Digit (get_or l i 0) → most < a * 10 + (get_or l i 0 - 48) → read_from a (drop i l) ≡ none
-  large-at h d m = sym (digit_at h d) ∙ read-large (a * 10 + (get_or l i 0 - 48)) (drop (i + 1) l) m
+  pub large-at : i < length l → is_digit (get_or l i 0) ≡ true → most < a * 10 + (get_or l i 0 - 48) → read_from a (drop i l) ≡ none
+  large-at h d m = digit_at h d ∙ read-large (a * 10 + (get_or l i 0 - 48)) (drop (i + 1) l) m
 
   pub end-at : length l ≤ i → a ≤ most → read_from a (drop i l) ≡ some a
   end-at h m = rw (drop_of_length-le l h) (read-end a m)
@@ -60,17 +58,11 @@ twice : {X : Type 0} (a b : Bool) (x y : X) → cond a (cond (a && b) x y) y ≡
 twice true b x y = refl
 twice false b x y = refl
 
--- what is read: no bytes, one byte, and more
-pub read_none : (l : List ℕ) → length l ≡ 0 → read_number l ≡ none
+-- what is read: no bytes, a leading zero, and all else
+pub read_none : (l : List ℕ) → eqb (length l) 0 ≡ true → read_number l ≡ none
 unfolding read_number numeral
 read_none [] h = refl
-read_none (d ∷ l) h = absurd (omega arith)
-
-pub read_one : (l : List ℕ) → length l ≡ 1 → read_number l ≡ read_from 0 l
-unfolding read_number numeral read_from
-read_one [] h = absurd (omega arith)
-read_one (d ∷ []) h = twice (all_digits (d ∷ [])) (leb (value (d ∷ [])) most) (some (value (d ∷ []))) none
-read_one (d ∷ e ∷ l) h = absurd (omega arith)
+read_none (d ∷ l) h = absurd (omega (arith, true-eq (length (d ∷ l)) 0 h))
 
 pub read-zero : (l : List ℕ) → 1 < length l → get_or l 0 0 ≡ 48 → read_number l ≡ none
 unfolding read_number numeral
@@ -78,11 +70,12 @@ read-zero [] h e = absurd (omega arith)
 read-zero (d ∷ []) h e = absurd (omega arith)
 read-zero (d ∷ x ∷ l) h e = rw e
 
-pub read_more : (l : List ℕ) → 1 < length l → (get_or l 0 0 ≡ 48 → ⊥) → read_number l ≡ read_from 0 l
+pub read_rest : (l : List ℕ) → eqb (length l) 0 ≡ false → (get_or l 0 0 ≡ 48) × (length l ≤ 1) ⊎ (get_or l 0 0 ≢ 48) → read_number l ≡ read_from 0 l
 unfolding read_number numeral read_from
-read_more [] h n = absurd (omega arith)
-read_more (d ∷ []) h n = absurd (omega arith)
-read_more (d ∷ x ∷ l) h n = rw (eq-false d 48 n) (twice (all_digits (d ∷ x ∷ l)) (leb (value (d ∷ x ∷ l)) most) (some (value (d ∷ x ∷ l))) none)
+read_rest [] h e = absurd (false-eq 0 0 h refl)
+read_rest (d ∷ []) h e = twice (all_digits (d ∷ [])) (leb (value (d ∷ [])) most) (some (value (d ∷ []))) none
+read_rest (d ∷ x ∷ l) h (inl e) = absurd (omega arith)
+read_rest (d ∷ x ∷ l) h (inr n) = rw (eq-false d 48 n) (twice (all_digits (d ∷ x ∷ l)) (leb (value (d ∷ x ∷ l)) most) (some (value (d ∷ x ∷ l))) none)
 
 -- bytes are read as a number exactly if they are what is written of it, and it is not too large
 pub read-written : (n : ℕ) → n ≤ most → read_number (decimal n) ≡ some n
@@ -103,14 +96,3 @@ written_read l n e = go (numeral l) refl (all_digits l) (leb (value l) most) ref
 -- such a number has at most ten digits
 pub ten-digits : (n : ℕ) → n ≤ most → length (decimal n) ≤ 10
 ten-digits n h = decimal-length 9 n (omega (arith, h))
-
--- what the code's answer says
-pub is_number : (o : Option ℕ) (n : ℕ) → number_or o ≡ N.Is n → o ≡ some n
-unfolding number_or
-is_number none n e = let z : ◌≡◌ {A = Number} N.Not (N.Is n) = e in cc
-is_number (some m) n e = let z : ◌≡◌ {A = Number} (N.Is m) (N.Is n) = e in cc
-
-pub not-number : (o : Option ℕ) → number_or o ≡ N.Not → o ≡ none
-unfolding number_or
-not-number none e = refl
-not-number (some m) e = let z : ◌≡◌ {A = Number} (N.Is m) N.Not = e in cc

@@ -4,3 +4,4 @@ pub mod Scan
 pub mod Halving
 pub mod Sought
 pub mod Order
+pub mod Chunks

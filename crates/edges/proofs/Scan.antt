@@ -7,17 +7,17 @@ use native.Mathlib.Numerals.{add-one}
 use native.Mathlib.Nat.{sub-zero}
 use native.Mathlib.Omega.{arith}
 use mathlib.Core.List.{List, [], ◌∷◌, ◌++◌}
+use Rattle.std.specs.Prelude as code
+use Rattle.std.specs.Prelude.{Some, None}
 use Rattle.lists.specs.Lists.{first, listed, collect}
+use Rattle.lists.specs.Options.{option_of}
+use Rattle.lists.proofs.Options.{held-none, held-some}
 use Rattle.lists.proofs.Lists.{first-append}
 use Rattle.thread.specs.declared.Node.{Node}
 use Rattle.graphs.specs.declared.Edge.{Edge}
 use Rattle.graphs.specs.Records.{edge_at, edges_in, records_in}
 use Rattle.generated.specs.Machine.{edge_for}
-use Rattle.edges.specs.declared.Taken.{Taken}
-use Rattle.edges.specs.declared.Taken.TheVariants as T
-use Rattle.edges.specs.Answers.{taken}
 use Rattle.edges.specs.Sought.{edge_there}
-use Rattle.edges.proofs.Laws.{untaken, is-taken}
 
 pub first_found : {A : Type 0} (p : A → Bool) (l k : List A) (a : A) → first p l ≡ some a → first p (l ++ k) ≡ some a
 unfolding first
@@ -46,18 +46,18 @@ module _ (t : List ℕ) (n : Node) (c : ℕ) (R : List ℕ) where
   scan-all = rw sub-zero
 
   -- the code's way: r is what record k gives
-  module _ (k records : ℕ) (r : Taken) (h : k < records) (i : r ≡ taken (edge_there t k n c R)) where
-    pub scan-on : r ≡ T.Nothing → edge_from t (k + 1) records n c R ≡ edge_from t k records n c R
+  module _ (k records : ℕ) (r : code.Option Edge) (h : k < records) (i : r ≡ option_of (edge_there t k n c R)) where
+    pub scan-on : r ≡ None → edge_from t (k + 1) records n c R ≡ edge_from t k records n c R
     unfolding edge_for
-    scan-on q = sym (rw (collect-more (edge_at t) k records h) (first-append _ (listed (edge_at t k)) (collect (edge_at t) (k + 1) (records - (k + 1))) (untaken (edge_there t k n c R) (sym i ∙ q))))
+    scan-on q = sym (rw (collect-more (edge_at t) k records h) (first-append _ (listed (edge_at t k)) (collect (edge_at t) (k + 1) (records - (k + 1))) (held-none (edge_there t k n c R) (sym i ∙ q))))
 
-    pub scan-found : (e : Edge) → r ≡ T.Along e → T.Along e ≡ taken (edge_from t k records n c R)
-    unfolding edge_for
+    pub scan-found : (e : Edge) → r ≡ Some e → Some e ≡ option_of (edge_from t k records n c R)
+    unfolding edge_for option_of
     scan-found e q =
         let f : edge_from t k records n c R ≡ some e =
-        rw (collect-more (edge_at t) k records h) (first_found _ (listed (edge_at t k)) (collect (edge_at t) (k + 1) (records - (k + 1))) e (is-taken (edge_there t k n c R) e (sym i ∙ q))) in
-        ap taken (sym f)
+        rw (collect-more (edge_at t) k records h) (first_found _ (listed (edge_at t k)) (collect (edge_at t) (k + 1) (records - (k + 1))) e (held-some (edge_there t k n c R) e (sym i ∙ q))) in
+        ap option_of (sym f)
 
-  pub scan-end : (k records : ℕ) → records ≤ k → T.Nothing ≡ taken (edge_from t k records n c R)
-  unfolding edge_for first
+  pub scan-end : (k records : ℕ) → records ≤ k → None ≡ option_of (edge_from t k records n c R)
+  unfolding edge_for first option_of
   scan-end k records h = rw (collect-end (edge_at t) k records h)

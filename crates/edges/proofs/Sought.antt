@@ -7,18 +7,19 @@ use native.Mathlib.Numerals.{add-one}
 use native.Mathlib.Omega.{arith}
 use mathlib.Core.List.{List}
 use lib.Dec.{eqb}
+use Rattle.std.specs.Prelude as code
+use Rattle.std.specs.Prelude.{Some, None}
 use Rattle.lists.specs.Lists.{first, listed, collect}
+use Rattle.lists.specs.Options.{option_of}
+use Rattle.lists.proofs.Options.{held-none, held-some}
 use Rattle.lists.proofs.Lists.{first-append}
 use Rattle.lists.proofs.Tests.{eq-true, eq-false, true-eq, false-eq, lt-true, true-lt, false-lt}
 use Rattle.thread.specs.declared.Node.{Node}
 use Rattle.graphs.specs.declared.Edge.{Edge}
 use Rattle.graphs.specs.Records.{edge_at, edges_in, records_in}
 use Rattle.generated.specs.Machine.{edge_for}
-use Rattle.edges.specs.declared.Taken.{Taken}
-use Rattle.edges.specs.declared.Taken.TheVariants as T
-use Rattle.edges.specs.Answers.{taken}
 use Rattle.edges.specs.Sought.{from_at, Sorted, lower, start_of, edge_there, edge_near, edge_sought}
-use Rattle.edges.proofs.Laws.{untaken, is-taken, other-node}
+use Rattle.edges.proofs.Laws.{other-node}
 use Rattle.edges.proofs.Scan.{first_found, edge_from, scan-all, scan-on}
 use Rattle.edges.proofs.Halving.{Leads, Parts, parts}
 
@@ -41,23 +42,25 @@ module _ (t : List ℕ) (n : Node) (c : ℕ) (R : List ℕ) where
   unfolding edge_near
   near-not k m h = rw (eq-false (from_at t k) n.0 h)
 
-  pub near-end : (k records : ℕ) → records ≤ k → T.Nothing ≡ taken (near_from k records)
-  unfolding edge_near
+  pub near-end : (k records : ℕ) → records ≤ k → None ≡ option_of (near_from k records)
+  unfolding edge_near option_of
   near-end k records h = let e : records - k ≡ 0 = omega arith in rw e
 
-  pub near-other : (k records : ℕ) → k < records → (from_at t k ≡ n.0 → ⊥) → T.Nothing ≡ taken (near_from k records)
+  pub near-other : (k records : ℕ) → k < records → (from_at t k ≡ n.0 → ⊥) → None ≡ option_of (near_from k records)
+  unfolding option_of
   near-other k records l h = let e : records - k ≡ suc (records - suc k) = omega arith in rw (e, near-not k (records - suc k) h)
 
   -- the code's way: r is what record k gives
-  module _ (k records : ℕ) (r : Taken) (l : k < records) (h : from_at t k ≡ n.0) (i : r ≡ taken (edge_there t k n c R)) where
-    pub near-found : (e : Edge) → r ≡ T.Along e → T.Along e ≡ taken (near_from k records)
-    near-found e q = let d : records - k ≡ suc (records - suc k) = omega arith in rw (d, near-one k (records - suc k) (some e) h (is-taken (edge_there t k n c R) e (sym i ∙ q)))
+  module _ (k records : ℕ) (r : code.Option Edge) (l : k < records) (h : from_at t k ≡ n.0) (i : r ≡ option_of (edge_there t k n c R)) where
+    pub near-found : (e : Edge) → r ≡ Some e → Some e ≡ option_of (near_from k records)
+    unfolding option_of
+    near-found e q = let d : records - k ≡ suc (records - suc k) = omega arith in rw (d, near-one k (records - suc k) (some e) h (held-some (edge_there t k n c R) e (sym i ∙ q)))
 
-    pub near_on : r ≡ T.Nothing → near_from (k + 1) records ≡ near_from k records
-    near_on q = let d : records - k ≡ suc (records - suc k) = omega arith in rw (d, near-one k (records - suc k) none h (untaken (edge_there t k n c R) (sym i ∙ q)), add-one)
+    pub near_on : r ≡ None → near_from (k + 1) records ≡ near_from k records
+    near_on q = let d : records - k ≡ suc (records - suc k) = omega arith in rw (d, near-one k (records - suc k) none h (held-none (edge_there t k n c R) (sym i ∙ q)), add-one)
 
   -- from where the node's records begin
-  pub near-start : (s : ℕ) (r : Taken) → s ≡ start_of t n → r ≡ taken (near_from s (records_in 7 t)) → r ≡ taken (edge_sought t n c R)
+  pub near-start : (s : ℕ) (r : code.Option Edge) → s ≡ start_of t n → r ≡ option_of (near_from s (records_in 7 t)) → r ≡ option_of (edge_sought t n c R)
   unfolding edge_sought
   near-start s r e h = rw (← e) h
 
@@ -65,14 +68,14 @@ module _ (t : List ℕ) (n : Node) (c : ℕ) (R : List ℕ) where
   pass : (s records : ℕ) → s ≤ records → ((k : ℕ) → k < s → from_at t k ≡ n.0 → ⊥) → edge_from t s records n c R ≡ edge_from t 0 records n c R
   pass zero records l h = refl
   pass (suc s) records l h =
-      let o : edge_from t (s + 1) records n c R ≡ edge_from t s records n c R = scan-on t n c R s records T.Nothing (omega arith) (other-node t s n c R (h s (omega arith))) refl in
+      let o : edge_from t (s + 1) records n c R ≡ edge_from t s records n c R = scan-on t n c R s records None (omega arith) (other-node t s n c R (h s (omega arith))) refl in
       rw (← add-one s) (o ∙ pass s records (omega arith) (λ k d. h k (omega arith)))
 
   none-leave : (k m : ℕ) → ((j : ℕ) → k ≤ j → j < k + m → from_at t j ≡ n.0 → ⊥) → edge_for (collect (edge_at t) k m) n c R ≡ none
   unfolding edge_for collect first
   none-leave k zero h = refl
   none-leave k (suc m) h =
-      first-append _ (listed (edge_at t k)) (collect (edge_at t) (suc k) m) (untaken (edge_there t k n c R) (sym (other-node t k n c R (h k (omega arith) (omega arith)))))
+      first-append _ (listed (edge_at t k)) (collect (edge_at t) (suc k) m) (held-none (edge_there t k n c R) (sym (other-node t k n c R (h k (omega arith) (omega arith)))))
       ∙ none-leave (suc k) m (λ j d e. h j (omega arith) (omega arith))
 
   -- in order, what leaves the node stands together

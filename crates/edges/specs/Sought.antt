@@ -1,6 +1,7 @@
 -- The search in a table whose records stand in the order of the nodes they leave: where a node's records begin, and the first of them that serves.
 use Rattle.std.specs.Prelude.{Bool, cond, ℕ, zero, suc, ◌+◌, ◌-◌, ◌*◌, ◌/◌, ◌≤◌, ◌<◌, List, ltb, eqb}
 use Rattle.std.proofs.Math.Option.{Option, none, some}
+use Rattle.std.specs.Simd.{first_chunks}
 use Rattle.lists.specs.Lists.{listed}
 use Rattle.thread.specs.declared.Node.{Node}
 use Rattle.thread.specs.Sizes.{edge_width}
@@ -8,6 +9,10 @@ use Rattle.thread.specs.Numbers.{◌!◌}
 use Rattle.graphs.specs.declared.Edge.{Edge}
 use Rattle.graphs.specs.Records.{edge_at, records_in}
 use Rattle.generated.specs.Machine.{edge_for}
+
+-- the records of a table, each seven numbers
+abbrev pub records_of : List ℕ → List (List ℕ)
+records_of t = first_chunks edge_width (records_in edge_width t) t
 
 -- the node that record k leaves, by its number
 abbrev pub from_at : List ℕ → ℕ → ℕ

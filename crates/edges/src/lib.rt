@@ -1,53 +1,37 @@
 // Edge records read: the operation that a record names, whether it serves a choice, and a table's first edge that leaves a node and does.
 #![tactic(auto)]
 
-ghost use Rattle.std.specs.Prelude.{◌≡◌, ◌+◌, ◌-◌, ◌*◌, ◌≤◌, length};
+ghost use Rattle.std.specs.Prelude.{◌≡◌, ◌-◌, length};
+ghost use Rattle.lists.specs.Options.{option_of};
 ghost use Rattle.thread.specs.Numbers.{◌!◌};
 ghost use Rattle.thread.specs.Operation.{op_named, in_range, op_of};
-ghost use Rattle.graphs.specs.Records.{records_in, edges_in};
+ghost use Rattle.graphs.specs.Records.{edge_at, records_in, edges_in};
 ghost use Rattle.generated.specs.Machine.{choice_of, test_holds, serves, edge_for};
-ghost use Rattle.edges.specs.Answers.{named, taken};
-ghost use Rattle.edges.specs.Sought.{edge_there, start_of, edge_near, edge_sought};
+ghost use Rattle.edges.specs.Sought.{records_of, edge_there, start_of, edge_near, edge_sought};
 
 use graphs::Edge;
-use thread::{Line, Node, Op};
+use thread::{EDGE_WIDTH, Line, MOST_LINES, Node, Op, REGISTERS, VARIABLES};
 
-// the sizes of a thread and of an edge record
-pub const REGISTERS: u32 = 16;
-
-pub const VARIABLES: u32 = 16;
-
-pub const LINES: u32 = 64;
-
-pub const EDGE_WIDTH: usize = 7;
-
-// the operation that five numbers name; junk names none
-#[derive(Clone, Copy)]
-pub enum Named {
-    Is(Op),
-    Junk,
-}
-
-// the operation by its number, with its fields
-#[tactic(auto, unfolding(thread::specs::Operation::op_named))]
-pub fn op_named(o: u32, a: u32, b: u32, c: u32, d: u32) -> Named
-    ensures { result ≡ named (op_named o a b c d) }
+// the operation that five numbers name, by its number, with its fields; junk names none
+#[tactic(auto, unfolding(thread::specs::Operation::op_named, lists::specs::Options::option_of))]
+pub fn op_named(o: u32, a: u32, b: u32, c: u32, d: u32) -> Option<Op>
+    ensures { result ≡ option_of (op_named o a b c d) }
 {
     match o {
-        0 => Named::Is(Op::Set(a, b)),
-        1 => Named::Is(Op::Copy(a, b)),
-        2 => Named::Is(Op::Add(a, b, c)),
-        3 => Named::Is(Op::Sub(a, b, c)),
-        4 => Named::Is(Op::Load(a, b)),
-        5 => Named::Is(Op::Take(a, Line(b))),
-        6 => Named::Is(Op::KeepR(Line(a), b)),
-        7 => Named::Is(Op::KeepC(Line(a), b)),
-        8 => Named::Is(Op::Pass),
-        9 => Named::Is(Op::Cas(a, b, c, d)),
-        10 => Named::Is(Op::IfNz(a)),
-        11 => Named::Is(Op::IfZ(a)),
-        12 => Named::Is(Op::Put(a, Line(b))),
-        _ => Named::Junk,
+        0 => Some(Op::Set(a, b)),
+        1 => Some(Op::Copy(a, b)),
+        2 => Some(Op::Add(a, b, c)),
+        3 => Some(Op::Sub(a, b, c)),
+        4 => Some(Op::Load(a, b)),
+        5 => Some(Op::Take(a, Line(b))),
+        6 => Some(Op::KeepR(Line(a), b)),
+        7 => Some(Op::KeepC(Line(a), b)),
+        8 => Some(Op::Pass),
+        9 => Some(Op::Cas(a, b, c, d)),
+        10 => Some(Op::IfNz(a)),
+        11 => Some(Op::IfZ(a)),
+        12 => Some(Op::Put(a, Line(b))),
+        _ => None,
     }
 }
 
@@ -58,35 +42,27 @@ pub fn in_range(op: Op) -> bool
 {
     match op {
         Op::Set(r, _) => r < REGISTERS,
-        Op::Copy(r, s) => (r < REGISTERS) & (s < REGISTERS),
-        Op::Add(r, s, t) => (r < REGISTERS) & (s < REGISTERS) & (t < REGISTERS),
-        Op::Sub(r, s, t) => (r < REGISTERS) & (s < REGISTERS) & (t < REGISTERS),
-        Op::Load(r, x) => (r < REGISTERS) & (x < VARIABLES),
-        Op::Take(r, l) => (r < REGISTERS) & (l.0 < LINES),
-        Op::KeepR(l, r) => (l.0 < LINES) & (r < REGISTERS),
-        Op::KeepC(l, _) => l.0 < LINES,
+        Op::Copy(r, s) => r < REGISTERS && s < REGISTERS,
+        Op::Add(r, s, t) => r < REGISTERS && s < REGISTERS && t < REGISTERS,
+        Op::Sub(r, s, t) => r < REGISTERS && s < REGISTERS && t < REGISTERS,
+        Op::Load(r, x) => r < REGISTERS && x < VARIABLES,
+        Op::Take(r, l) => r < REGISTERS && (l.0 as usize) < MOST_LINES,
+        Op::KeepR(l, r) => (l.0 as usize) < MOST_LINES && r < REGISTERS,
+        Op::KeepC(l, _) => (l.0 as usize) < MOST_LINES,
         Op::Pass => true,
-        Op::Cas(r, x, s, t) => (r < REGISTERS)
-            & (x < VARIABLES)
-            & (s < REGISTERS)
-            & (t < REGISTERS),
+        Op::Cas(r, x, s, t) => r < REGISTERS && x < VARIABLES && s < REGISTERS && t < REGISTERS,
         Op::IfNz(r) => r < REGISTERS,
         Op::IfZ(r) => r < REGISTERS,
-        Op::Put(x, l) => (x < VARIABLES) & (l.0 < LINES),
+        Op::Put(x, l) => x < VARIABLES && (l.0 as usize) < MOST_LINES,
     }
 }
 
 // the operation of a record's five numbers, built or junk
-pub fn op_of(o: u32, a: u32, b: u32, c: u32, d: u32) -> Named
-    ensures { result ≡ named (op_of o a b c d) }
+pub fn op_of(o: u32, a: u32, b: u32, c: u32, d: u32) -> Option<Op>
+    ensures { result ≡ option_of (op_of o a b c d) }
 {
-    let Named::Is(op) = op_named(o, a, b, c, d) else {
-        return Named::Junk;
-    };
-    if in_range(op) {
-        return Named::Is(op);
-    }
-    Named::Junk
+    let op = op_named(o, a, b, c, d)?;
+    if in_range(op) { Some(op) } else { None }
 }
 
 // the choice that an operation serves: 1 + x for a put to x, 0 for every other
@@ -122,65 +98,64 @@ pub fn serves(choice: u32, registers: &[u32], op: Op) -> bool
     test_holds(registers, op)
 }
 
-// an edge to go along, if there is one
-#[derive(Clone, Copy)]
-pub enum Taken {
-    Along(Edge),
-    Nothing,
+// a record as an edge, if it is one
+pub fn edge_of(record: &[u32; 7]) -> Option<Edge>
+    ensures { result ≡ option_of (edge_at record.now 0) }
+{
+    let [from, to, o, a, b, c, d] = *record;
+    let op = op_of(o, a, b, c, d)?;
+    Some(Edge {
+        from: Node(from),
+        to: Node(to),
+        op,
+    })
 }
 
-// record k of a table, if it is an edge that leaves the node and serves the choice
-fn fits(table: &[u32], k: usize, node: Node, choice: u32, registers: &[u32]) -> Taken
-    requires { 7 * k + 7 ≤ length table.now }
-    ensures { result ≡ taken (edge_there table.now k node choice registers.now) }
+// a record, if it is an edge that leaves the node and serves the choice
+fn fits(record: &[u32; 7], node: Node, choice: u32, registers: &[u32]) -> Option<Edge>
+    ensures { result ≡ option_of (edge_there record.now 0 node choice registers.now) }
 {
-    let i = EDGE_WIDTH * k;
-    if table[i] != node.0 {
-        return Taken::Nothing;
+    if record[0] != node.0 {
+        return None;
     }
-    let Named::Is(op) = op_of(
-        table[i + 2],
-        table[i + 3],
-        table[i + 4],
-        table[i + 5],
-        table[i + 6],
-    ) else {
-        return Taken::Nothing;
-    };
-    if serves(choice, registers, op) {
-        return Taken::Along(Edge {
-            from: node,
-            to: Node(table[i + 1]),
-            op,
-        });
+    let e = edge_of(record)?;
+    if serves(choice, registers, e.op) {
+        Some(e)
+    } else {
+        None
     }
-    Taken::Nothing
+}
+
+// the records of a table
+pub fn records(table: &[u32]) -> &[[u32; 7]]
+    ensures records { result.now ≡ records_of table.now }
+    ensures count { length result.now ≡ records_in 7 table.now }
+{
+    table.as_chunks::<EDGE_WIDTH>().0
 }
 
 // the first edge of a table, in order, that leaves the node and serves the choice
-pub fn edge_for(table: &[u32], node: Node, choice: u32, registers: [u32; 16]) -> Taken
-    ensures { result ≡ taken (edge_for (edges_in table.now) node choice registers) }
+pub fn edge_for(table: &[u32], node: Node, choice: u32, registers: [u32; 16]) -> Option<Edge>
+    ensures { result ≡ option_of (edge_for (edges_in table.now) node choice registers) }
 {
-    let records = table.len() / EDGE_WIDTH;
-    let mut k: usize = 0;
-    while k < records {
-        if let Taken::Along(e) = fits(table, k, node, choice, &registers) {
-            return Taken::Along(e);
+    for record in records(table) {
+        if let Some(e) = fits(record, node, choice, &registers) {
+            return Some(e);
         }
-        k += 1;
     }
-    Taken::Nothing
+    None
 }
 
 // where the records that leave a node begin, in a table in the order of its nodes: found by halving
 pub fn start_of(table: &[u32], node: Node) -> usize
     ensures { result ≡ start_of table.now node }
 {
+    let records = records(table);
     let mut lo: usize = 0;
-    let mut hi = table.len() / EDGE_WIDTH;
+    let mut hi = records.len();
     while lo < hi {
         let mid = lo + (hi - lo) / 2;
-        if table[EDGE_WIDTH * mid] < node.0 {
+        if records[mid][0] < node.0 {
             lo = mid + 1;
         } else {
             hi = mid;
@@ -190,33 +165,38 @@ pub fn start_of(table: &[u32], node: Node) -> usize
 }
 
 // from a record on, the first edge that serves the choice, as long as the records leave the node
-pub fn edge_near(table: &[u32], node: Node, choice: u32, registers: &[u32], start: usize) -> Taken
-    ensures { result ≡ taken (edge_near table.now node choice registers.now start (records_in 7 table.now - start)) }
+pub fn edge_near(
+    table: &[u32],
+    node: Node,
+    choice: u32,
+    registers: &[u32],
+    start: usize,
+) -> Option<Edge>
+    ensures { result ≡ option_of (edge_near table.now node choice registers.now start (records_in 7 table.now - start)) }
 {
-    let records = table.len() / EDGE_WIDTH;
-    let mut k = start;
-    while k < records {
-        if table[EDGE_WIDTH * k] != node.0 {
-            return Taken::Nothing;
+    let records = records(table);
+    for k in start..records.len() {
+        let record = &records[k];
+        if record[0] != node.0 {
+            return None;
         }
-        if let Taken::Along(e) = fits(table, k, node, choice, registers) {
-            return Taken::Along(e);
+        if let Some(e) = fits(record, node, choice, registers) {
+            return Some(e);
         }
-        k += 1;
     }
-    Taken::Nothing
+    None
 }
 
 // as `edge_for`, where the table is in the order of its nodes: only the node's own records are looked at
-pub fn edge_sought_in(table: &[u32], node: Node, choice: u32, registers: &[u32]) -> Taken
-    ensures { result ≡ taken (edge_sought table.now node choice registers.now) }
+pub fn edge_sought_in(table: &[u32], node: Node, choice: u32, registers: &[u32]) -> Option<Edge>
+    ensures { result ≡ option_of (edge_sought table.now node choice registers.now) }
 {
     edge_near(table, node, choice, registers, start_of(table, node))
 }
 
 // the same of registers by value
-pub fn edge_sought(table: &[u32], node: Node, choice: u32, registers: [u32; 16]) -> Taken
-    ensures { result ≡ taken (edge_sought table.now node choice registers) }
+pub fn edge_sought(table: &[u32], node: Node, choice: u32, registers: [u32; 16]) -> Option<Edge>
+    ensures { result ≡ option_of (edge_sought table.now node choice registers) }
 {
     edge_sought_in(table, node, choice, &registers)
 }

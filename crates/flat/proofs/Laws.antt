@@ -5,23 +5,25 @@ use mathlib.Core.Bool.{Bool, true, false}
 use mathlib.Core.Option.{none, some}
 use Prim.Native.Nat.{ℕ, ◌*◌, ◌≤◌, ◌<◌}
 use native.Mathlib.Omega.{arith}
-use mathlib.Core.List.{List, []}
-use lib.ListN.{length, get_or, take, drop, set}
+use mathlib.Core.List.{List, [], ◌++◌}
+use lib.ListN.{length, get_or, take, drop, set, take-append-drop}
 use lib.Seq.{get_or-set_same, get_or-set_other, set-get_or, drop-set-lt}
 use borrow.Rule.Slice.PartMut.{put_mid}
+use Rattle.std.specs.Prelude as code
+use Rattle.std.specs.Prelude.{Some, None, is_some}
+use Rattle.thread.specs.declared.Node.{Node}
 use Rattle.thread.specs.Numbers.{◌!◌}
 use Rattle.graphs.specs.Records.{node}
 use Rattle.runs.specs.Run.{takes}
+use Rattle.runs.specs.Machine.{Turned}
 use Rattle.generated.specs.declared.Generated.{Generated}
-use Rattle.step.specs.declared.Change.{Change}
-use Rattle.step.specs.declared.Change.TheVariants as C
 use Rattle.step.specs.declared.Moved.{Moved}
-use Rattle.step.specs.declared.Stepped.{Stepped}
-use Rattle.step.specs.Step.{decided_sought, stays, applied, searched, left}
+use Rattle.step.specs.Step.{moved_to, searched, left, left_by}
+use Rattle.step.proofs.Laws.{left-some, left_none}
 use Rattle.shown.specs.Ran.{world}
 use Rattle.shown.proofs.Parts.{part-own, part-other, lent_length, four-at, set-four}
 use Rattle.shown.proofs.Turns.{takes-absent, takes-past, takes_none, takes-some}
-use Rattle.flat.specs.Flat.{thread_at, flat, taken, sought_step, Turned, TurnedIn, Done}
+use Rattle.flat.specs.Flat.{thread_at, flat, taken, sought_step, TurnedIn, Done}
 
 -- Thread t goes to node v, and its registers and auxiliary values become ys and zs.
 module _ (N R A : List ℕ) (t : ℕ) (lt : t < 4) (four-nodes : length N ≡ 4) (all-registers : length R ≡ 64) (all-auxiliaries : length A ≡ 256)
@@ -52,34 +54,44 @@ module _ (N R A : List ℕ) (t : ℕ) (lt : t < 4) (four-nodes : length N ≡ 4)
       let r = part-other 64 t A zs sixty-four (omega arith) u d in
       λ i. record { node = node (p i); registers = q i; auxiliaries = r i }
 
--- the code's way to `Done`: j and k are the widths of the parts that were lent, s is what the step in place answers
-module _ (N R A : List ℕ) (t : ℕ) (lt : t < 4) (n : length N ≡ 4) (r : length R ≡ 64) (a : length A ≡ 256) (j k : ℕ) (ej : j ≡ 16) (ek : k ≡ 64) where
-  pub done-in-place : (table : List ℕ) (c : ℕ) (M : List ℕ) (s : Stepped) (M' ys zs : List ℕ)
-      → length ys ≡ length (take j (drop (16 * t) R)) → length zs ≡ length (take k (drop (64 * t) A))
-      → left s M' ys zs ≡ searched table c M (record { node = node (N ! t); registers = take j (drop (16 * t) R); auxiliaries = take k (drop (64 * t) A) })
-      → Done (searched table c M (thread_at N R A t)) t (flat N R A) s.ok M' (flat (set N t s.node.0) (put_mid (16 * t) j R ys) (put_mid (64 * t) k A zs))
-  done-in-place table c M s M' ys zs y z e =
+-- a part that is written back as it was
+unchanged : (a k : ℕ) (l : List ℕ) → put_mid a k l (take k (drop a l)) ≡ l
+unchanged a k l = ap (λ (m : List ℕ). take a l ++ m) (take-append-drop k (drop a l)) ∙ take-append-drop a l
+
+-- the code's way to `Done`: j and k are the widths of the parts that were lent, and the step in place leaves M', ys and zs
+module _ (N R A : List ℕ) (t : ℕ) (lt : t < 4) (n : length N ≡ 4) (r : length R ≡ 64) (a : length A ≡ 256) (j k : ℕ) (ej : j ≡ 16) (ek : k ≡ 64) (table : List ℕ) (c : ℕ) (M M' ys zs : List ℕ) where
+  abbrev own-part : List ℕ
+  own-part = take j (drop (16 * t) R)
+
+  abbrev aux-part : List ℕ
+  aux-part = take k (drop (64 * t) A)
+
+  abbrev reached : code.Option Moved
+  reached = searched table c M (record { node = node (N ! t); registers = own-part; auxiliaries = aux-part })
+
+  abbrev Ends : Bool → List ℕ → Type 0
+  Ends b N' = Done (searched table c M (thread_at N R A t)) t M (flat N R A) b M' (flat N' (put_mid (16 * t) j R ys) (put_mid (64 * t) k A zs))
+
+  pub done_still : left None M' ys zs ≡ left_by reached M own-part aux-part → Ends false N
+  done_still e =
+      let l = left_none M own-part aux-part M' ys zs reached e in
+      let s : searched table c M (thread_at N R A t) ≡ None = rw (ej, ek) at l.0 in
+      let p : put_mid (16 * t) j R ys ≡ R = ap (put_mid (16 * t) j R) l.2 ∙ unchanged (16 * t) j R in
+      let q : put_mid (64 * t) k A zs ≡ A = ap (put_mid (64 * t) k A) l.3 ∙ unchanged (64 * t) k A in
+      rw s (record { ok = refl; memory = l.1; threads = λ i. flat N (p i) (q i) })
+
+  pub done-in-place : (to : Node) → length ys ≡ length own-part → length zs ≡ length aux-part → left (Some to) M' ys zs ≡ left_by reached M own-part aux-part → Ends true (set N t to.0)
+  done-in-place to y z e =
       let p : length ys ≡ 16 = lent_length 16 (16 * t) j R ys ej (omega arith) y in
       let q : length zs ≡ 64 = lent_length 64 (64 * t) k A zs ek (omega arith) z in
-      let m : left s M' ys zs ≡ searched table c M (thread_at N R A t) = rw (ej, ek) at e in
-      let v = s.node.0 in
-      rw (ej, ek, ← m)
+      let s : searched table c M (thread_at N R A t) ≡ Some (moved_to M' to ys zs) = rw (ej, ek) at (left-some M own-part aux-part M' ys zs to reached e) in
+      rw (ej, ek, s)
       (record {
         ok = refl;
         memory = refl;
-        threads = set-four (thread_at N R A) (thread_at (set N t v) (put_mid (16 * t) 16 R ys) (put_mid (64 * t) 64 A zs)) t (record { node = node v; registers = ys; auxiliaries = zs }) lt
-            (own N R A t lt n r a v ys zs p q) (others N R A t lt n r a v ys zs p q);
+        threads = set-four (thread_at N R A) (thread_at (set N t to.0) (put_mid (16 * t) 16 R ys) (put_mid (64 * t) 64 A zs)) t (record { node = to; registers = ys; auxiliaries = zs }) lt
+            (own N R A t lt n r a to.0 ys zs p q) (others N R A t lt n r a to.0 ys zs p q);
       })
-
--- where there is no step, nothing changes
-not-ok : (d : Change) (M : List ℕ) (own : Generated) → (applied d M own).ok ≡ false → applied d M own ≡ stays M own
-unfolding applied
-not-ok C.Nothing M own e = refl
-not-ok (C.Go to) M own e = cc
-not-ok (C.Register to r v) M own e = cc
-not-ok (C.Auxiliary to l v) M own e = cc
-not-ok (C.Memory to x v) M own e = cc
-not-ok (C.Swap to x v r) M own e = cc
 
 -- A turn of thread t, of those that are present.
 module _ (tables : List (List ℕ)) (count t c : ℕ) (M N R A : List ℕ) where
@@ -99,7 +111,7 @@ module _ (tables : List (List ℕ)) (count t c : ℕ) (M N R A : List ℕ) where
   turn-past h = record { turned = (takes-past (sought_step tables) count M ts t c h, refl); others = refl }
 
   module _ (present : t < count) (lt : t < 4) where
-    abbrev moved : Moved
+    abbrev moved : code.Option Moved
     moved = searched (get_or tables t []) c M (thread_at N R A t)
 
     at-four : get_or ts t (thread_at N R A t) ≡ thread_at N R A t
@@ -109,20 +121,19 @@ module _ (tables : List (List ℕ)) (count t c : ℕ) (M N R A : List ℕ) where
     unfolding sought_step
     stepped = ap (λ (o : Generated). taken (searched (get_or tables t []) c M o)) at-four
 
-    turn-world : (r : Bool) (M' : List ℕ) (ts' : List Generated) → Done moved t ts r M' ts' → Turns r M' ts'
-    unfolding taken searched
-    turn-world true M' ts' d =
-        let k : moved.ok ≡ true = sym d.ok in
-        let e : taken moved ≡ some (record { memory = moved.memory; own = moved.own }) = rw k in
-        takes-some (sought_step tables) count M ts t c (thread_at N R A t) present (omega arith) (record { memory = moved.memory; own = moved.own }) (stepped ∙ e)
-        ∙ (λ i. some (world count (sym d.memory i) (sym d.threads i)))
-    turn-world false M' ts' d =
-        let k : moved.ok ≡ false = sym d.ok in
-        let e : taken moved ≡ none = rw k in
-        let s : moved ≡ stays M (thread_at N R A t) = not-ok (decided_sought (get_or tables t []) c M (thread_at N R A t)) M (thread_at N R A t) k in
-        let p : M' ≡ M = d.memory ∙ ap (λ (m : Moved). m.memory) s in
-        let q : ts' ≡ ts = d.threads ∙ ap (λ (m : Moved). set ts t m.own) s ∙ ap (set ts t) (sym at-four) ∙ set-get_or ts t (thread_at N R A t) in
-        (takes_none (sought_step tables) count M ts t c (thread_at N R A t) present (omega arith) (stepped ∙ e), λ i. world count (p i) (q i))
+    turn-world : (m : code.Option Moved) → moved ≡ m → (r : Bool) (M' : List ℕ) (ts' : List Generated) → Done m t M ts r M' ts' → Turns r M' ts'
+    unfolding taken
+    turn-world (Some m) e r M' ts' d =
+        let s : sought_step tables t c (record { memory = M; own = get_or ts t (thread_at N R A t) }) ≡ some (record { memory = m.memory; own = m.own }) = stepped ∙ ap taken e in
+        rw d.ok
+        (takes-some (sought_step tables) count M ts t c (thread_at N R A t) present (omega arith) (record { memory = m.memory; own = m.own }) s ∙ (λ i. some (world count (sym d.memory i) (sym d.threads i))))
+    turn-world None e r M' ts' d =
+        let s : sought_step tables t c (record { memory = M; own = get_or ts t (thread_at N R A t) }) ≡ none = stepped ∙ ap taken e in
+        rw d.ok (takes_none (sought_step tables) count M ts t c (thread_at N R A t) present (omega arith) s, λ i. world count (d.memory i) (d.threads i))
 
-    pub turn-taken : (r : Bool) (M' : List ℕ) (ts' : List Generated) → Done moved t ts r M' ts' → TurnsIn r M' ts'
-    turn-taken r M' ts' d = record { turned = turn-world r M' ts' d; others = ap (drop count) d.threads ∙ drop-set-lt count ts t moved.own present }
+    others-stay : (m : code.Option Moved) (r : Bool) (M' : List ℕ) (ts' : List Generated) → Done m t M ts r M' ts' → drop count ts' ≡ drop count ts
+    others-stay (Some m) r M' ts' d = ap (drop count) d.threads ∙ drop-set-lt count ts t m.own present
+    others-stay None r M' ts' d = ap (drop count) d.threads
+
+    pub turn-taken : (r : Bool) (M' : List ℕ) (ts' : List Generated) → Done moved t M ts r M' ts' → TurnsIn r M' ts'
+    turn-taken r M' ts' d = record { turned = turn-world moved refl r M' ts' d; others = others-stay moved r M' ts' d }

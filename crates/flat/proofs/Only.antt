@@ -1,7 +1,7 @@
 -- Nothing is left open: two results that keep the promise of a turn are equal, answer, memory and all three arrays.
 use mathlib.Core.Path.{◌≡◌, refl, sym, ap, ◌∙◌}
-use mathlib.Core.Bool.{Bool, true, false}
-use mathlib.Core.Option.{Option, none, some, Option-elim}
+use mathlib.Core.Bool.{Bool}
+use mathlib.Core.Option.{Option}
 use Prim.Native.Nat.{ℕ, ◌+◌}
 use native.Mathlib.Omega.{arith}
 use mathlib.Core.List.{List, [], ◌∷◌, ◌++◌}
@@ -9,9 +9,10 @@ use lib.ListN.{length, get_or, take, drop, length-drop, take-append-drop}
 use lib.Seq.{take_all, drop-drop}
 use Rattle.thread.specs.Numbers.{◌!◌}
 use Rattle.runs.specs.Run.{World}
+use Rattle.runs.proofs.Only.{only-turned}
 use Rattle.generated.specs.declared.Generated.{Generated}
 use Rattle.shown.specs.Ran.{world}
-use Rattle.flat.specs.Flat.{thread_at, flat, Turned, TurnedIn}
+use Rattle.flat.specs.Flat.{thread_at, flat, TurnedIn}
 
 -- A list of four equal parts is told by its parts.
 module _ (w : ℕ) where
@@ -59,19 +60,11 @@ module _ (N R A N₂ R₂ A₂ : List ℕ) (same : flat N R A ≡ flat N₂ R₂
       let own : Generated → List ℕ = λ o. o.auxiliaries in
       same_parts 64 A A₂ h g (ap own (thread-same 0)) (ap own (thread-same 1)) (ap own (thread-same 2)) (ap own (thread-same 3))
 
--- The answer is settled, and so is the world.
-settled : (o : Option (World Generated)) (w : World Generated) (r r₂ : Bool) (w' w₂ : World Generated) → Turned o w r w' → Turned o w r₂ w₂ → (r ≡ r₂) × (w' ≡ w₂)
-unfolding Option-elim
-settled o w true true w' w₂ a b = (refl, ap (λ (p : Option (World Generated)). Option-elim p w' (λ x. x)) (sym a ∙ b))
-settled o w true false w' w₂ a b = let e : some w' ≡ none = sym a ∙ b.0 in (cc, cc)
-settled o w false true w' w₂ a b = let e : some w₂ ≡ none = sym b ∙ a.0 in (cc, cc)
-settled o w false false w' w₂ a b = (refl, a.1 ∙ sym b.1)
-
 module _ (count : ℕ) (o : Option (World Generated)) (M : List ℕ) (ts : List Generated) (r r₂ : Bool) (M' M₂ N N₂ R R₂ A A₂ : List ℕ) where
   pub only : length N ≡ 4 → length N₂ ≡ 4 → length R ≡ 64 → length R₂ ≡ 64 → length A ≡ 256 → length A₂ ≡ 256 → TurnedIn count o M ts r M' (flat N R A) → TurnedIn count o M ts r₂ M₂ (flat N₂ R₂ A₂)
       → (r ≡ r₂) × (M' ≡ M₂) × (N ≡ N₂) × (R ≡ R₂) × (A ≡ A₂)
   only n n₂ e e₂ a a₂ p q =
-      let s = settled o (world count M ts) r r₂ (world count M' (flat N R A)) (world count M₂ (flat N₂ R₂ A₂)) p.turned q.turned in
+      let s = only-turned o (world count M ts) r r₂ (world count M' (flat N R A)) (world count M₂ (flat N₂ R₂ A₂)) p.turned q.turned in
       let front : take count (flat N R A) ≡ take count (flat N₂ R₂ A₂) = ap (λ (w : World Generated). w.threads) s.1 in
       let back : drop count (flat N R A) ≡ drop count (flat N₂ R₂ A₂) = p.others ∙ sym q.others in
       let same : flat N R A ≡ flat N₂ R₂ A₂ = sym (take-append-drop count (flat N R A)) ∙ (λ i. front i ++ back i) ∙ take-append-drop count (flat N₂ R₂ A₂) in (

@@ -1,94 +1,62 @@
-// Four generated threads held flat: their nodes, registers and auxiliary values each in one array, thread by thread. A turn of
-// one of them is done where its values lie: it reads the few numbers that its step needs, and writes one or two.
+// Four generated threads held flat: memory, and their nodes, registers and auxiliary values each in one array, thread by thread. A
+// turn of one of them is done where its values lie: it reads the few numbers that its step needs, and writes one or two.
 #![tactic(auto)]
 
-ghost use Rattle.std.specs.Prelude.{◌≡◌, [], ◌∷◌, ◌<◌, length, get_or};
+ghost use Rattle.std.specs.Prelude.{◌≡◌, ◌<◌};
+ghost use Rattle.lists.specs.Slices.{contents};
 ghost use Rattle.runs.specs.Run.{takes};
 ghost use Rattle.step.specs.Step.{searched};
 ghost use Rattle.shown.specs.Ran.{world};
-ghost use Rattle.flat.specs.Flat.{thread_at, flat, sought_step, TurnedIn, Done};
+ghost use Rattle.flat.specs.Flat.{thread_in, threads_in, sought_step, TurnedIn, Done};
 
-use thread::Node;
+use thread::{MOST_LINES, MOST_THREADS, Node};
 
-// the numbers of thread `t` lie at 16 * t and at 64 * t
-const REGISTERS: usize = 16;
+// registers 0 to 15
+const OWN: usize = thread::REGISTERS as usize;
 
-const LINES: usize = 64;
-
-const THREADS: u32 = 4;
-
-// the edge records of thread `t`
-fn table_of<'a>(e0: &'a [u32], e1: &'a [u32], e2: &'a [u32], e3: &'a [u32], t: u32) -> &'a [u32]
-    requires { t < 4 }
-    ensures { result.now ≡ get_or (e0.now ∷ e1.now ∷ e2.now ∷ e3.now ∷ []) t [] }
-{
-    match t {
-        0 => e0,
-        1 => e1,
-        2 => e2,
-        _ => e3,
-    }
+// memory, and four threads: thread t's node at place t, its registers from place 16 t on, and its auxiliary values from 64 t on
+#[derive(Clone, Copy)]
+pub struct Flat {
+    pub memory: [u32; 16],
+    pub nodes: [u32; 4],
+    pub registers: [u32; 64],
+    pub auxiliaries: [u32; 256],
 }
 
-// thread `t` takes a choice by the edge records of a table, if it has got that choice
-fn turn_at(
-    table: &[u32],
-    t: usize,
-    choice: u32,
-    memory: &mut [u32],
-    nodes: &mut [u32],
-    registers: &mut [u32],
-    auxiliaries: &mut [u32],
-) -> bool
-    requires { (t < 4) × (length nodes.old ≡ 4) × (length registers.old ≡ 64) × (length auxiliaries.old ≡ 256) }
-    ensures { Done (searched table.now choice memory.old (thread_at nodes.old registers.old auxiliaries.old t)) t (flat nodes.old registers.old auxiliaries.old) result memory.new (flat nodes.new registers.new auxiliaries.new) }
-{
-    let r = REGISTERS * t;
-    let a = LINES * t;
-    let from = Node(nodes[t]);
-    let s = step::step_in(
-        table,
-        choice,
-        from,
-        memory,
-        &mut registers[r..r + REGISTERS],
-        &mut auxiliaries[a..a + LINES],
-    );
-    let to = s.node;
-    nodes[t] = to.0;
-    s.ok
-}
+impl Flat {
+    // thread `t` takes a choice by the edge records of a table, if it has got that choice
+    fn turn_at(&mut self, table: &[u32], t: usize, choice: u32) -> bool
+        requires { t < 4 }
+        ensures { Done (searched table.now choice self.old.memory (thread_in self.old t)) t self.old.memory (threads_in self.old) result self.new.memory (threads_in self.new) }
+    {
+        let r = OWN * t;
+        let a = MOST_LINES * t;
+        let from = Node(self.nodes[t]);
+        let Some(to) = step::step_in(
+            table,
+            choice,
+            from,
+            &mut self.memory,
+            &mut self.registers[r..r + OWN],
+            &mut self.auxiliaries[a..a + MOST_LINES],
+        ) else {
+            return false;
+        };
+        self.nodes[t] = to.0;
+        true
+    }
 
-// an item of the schedule: thread `t`, if it is one of the first `threads`, takes a choice; else nothing changes
-pub fn turn<'a>(
-    threads: u32,
-    e0: &'a [u32],
-    e1: &'a [u32],
-    e2: &'a [u32],
-    e3: &'a [u32],
-    t: u32,
-    choice: u32,
-    memory: &mut [u32; 16],
-    nodes: &mut [u32; 4],
-    registers: &mut [u32; 64],
-    auxiliaries: &mut [u32; 256],
-) -> bool
-    ensures { TurnedIn threads (takes (sought_step (e0.now ∷ e1.now ∷ e2.now ∷ e3.now ∷ [])) (world threads memory.old (flat nodes.old registers.old auxiliaries.old)) t choice) memory.old (flat nodes.old registers.old auxiliaries.old) result memory.new (flat nodes.new registers.new auxiliaries.new) }
-{
-    if threads <= t {
-        return false;
+    // an item of the schedule: thread `t`, if it is one of the first `threads`, takes a choice by its own table; else nothing changes
+    pub fn turn(&mut self, threads: u32, tables: &[&[u32]; 4], t: u32, choice: u32) -> bool
+        ensures { TurnedIn threads (takes (sought_step (contents tables.now)) (world threads self.old.memory (threads_in self.old)) t choice) self.old.memory (threads_in self.old) result self.new.memory (threads_in self.new) }
+    {
+        if threads <= t {
+            return false;
+        }
+        if MOST_THREADS <= t {
+            return false;
+        }
+        let own = t as usize;
+        self.turn_at(tables[own], own, choice)
     }
-    if THREADS <= t {
-        return false;
-    }
-    let table = table_of(e0, e1, e2, e3, t);
-    turn_at(
-        table,
-        t as usize,
-        choice,
-        memory,
-        nodes,
-        registers,
-        auxiliaries,
-    )
 }

@@ -1,14 +1,13 @@
 -- The run of generated threads: its answer, the state it shows and the full contents of the eight lent rooms, for every input.
-use Rattle.std.specs.Prelude.{cond, ℕ, ◌*◌, List, [], map, get_or, take, ltb}
+use Rattle.std.specs.Prelude.{Err, cond, ℕ, ◌*◌, List, [], map, get_or, take, ltb}
 use Rattle.std.proofs.Math.Option.{Option, none, some}
 use Rattle.lists.specs.Lists.{each, collect}
 use Rattle.thread.specs.declared.Line.{Line}
 use Rattle.thread.specs.declared.Refusal.{Refusal}
 use Rattle.thread.specs.Sizes.{most_lines, most_threads, edge_width}
 use Rattle.thread.specs.Numbers.{zeros}
-use Rattle.runs.specs.declared.Ended.{Ended}
-use Rattle.runs.specs.declared.Ended.TheVariants as E
-use Rattle.runs.specs.Run.{Stand, items, run, threads_refused, end_of}
+use Rattle.runs.specs.declared.Unfinished.TheVariants as U
+use Rattle.runs.specs.Run.{Ended, Stand, items, run, threads_refused, end_of}
 use Rattle.runs.specs.Start.{Start, table_of, registers_of, start_world}
 use Rattle.runs.specs.Shown.{Waited, ShownThread, Shown, shown_thread, shown_state, zero_state}
 use Rattle.graphs.specs.Records.{node, node_at}
@@ -89,7 +88,7 @@ unfolding threads_refused thread_refusal stand_generated result_generated rooms_
 run_generated s rooms =
     elim (threads_refused (thread_refusal s rooms) s.count) [
       | some b ↦ record {
-        ended = E.Refused b.thread b.refusal;
+        ended = Err (U.Refused b.thread b.refusal);
         state = zero_state;
         nodes = rooms_after (node_room rooms) (λ t. []) 0;
         edges = rooms_after (edge_room rooms) (λ t. []) 0;

@@ -1,4 +1,3 @@
 pub mod Rows
-pub mod Search
 pub mod Laws
 pub mod Records

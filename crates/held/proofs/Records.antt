@@ -1,63 +1,66 @@
 -- Laws of a flat table's records as edges, and of the edges of its first eight records: searched, they are what the table is.
-use mathlib.Core.Path.{◌≡◌, refl, sym, ap, ◌∙◌}
+use mathlib.Core.Path.{◌≡◌, refl, sym, ap, subst, ◌∙◌}
 use mathlib.Core.Bool.{Bool, true, false, cond, ◌&&◌}
-use mathlib.Core.Option.{Option, none, some, map, bind}
-use Prim.Native.Nat.{ℕ, zero, suc, ◌+◌, ◌-◌, ◌*◌, ◌≤◌, ◌<◌, ◌^◌}
+use mathlib.Core.Option as maybe
+use mathlib.Core.Option.{Option, none, some, bind}
+use Prim.Native.Nat.{ℕ, zero, suc, ◌+◌, ◌-◌, ◌≤◌, ◌<◌, ◌^◌}
 use native.Mathlib.Omega.{arith}
 use native.Mathlib.Numerals.{add-one}
-use mathlib.Core.List.{List, [], ◌∷◌, ◌++◌}
+use mathlib.Core.List.{List, [], ◌∷◌, ◌++◌, map}
+use lib.ListN.{length, get_or}
+use denote.Param.Members.{Mut, Called}
+use Rattle.std.specs.Array.{IsFromFnResultFrom, IsFromFnResult}
+use Rattle.std.specs.List.{range_with_len}
+use Rattle.std.proofs.lemmas.List.{get_or_default}
+use Rattle.std.proofs.lemmas.List.FromFn.{fill_by_all}
 use lib.Dec.{ltb, eqb}
+use Rattle.std.specs.Prelude as code
+use Rattle.std.specs.Prelude.{Some, None, unwrap_or}
 use Rattle.lists.specs.Lists.{first, listed, collect}
+use Rattle.lists.specs.Options.{option_of}
 use Rattle.lists.proofs.Tests.{lt-true, lt-false, true-lt, false-lt, eq-false}
 use Rattle.thread.specs.declared.Node.{Node}
-use Rattle.thread.specs.declared.Op.{Op}
 use Rattle.thread.specs.declared.Op.TheVariants as O
-use Rattle.thread.specs.Numbers.{◌!◌}
 use Rattle.thread.specs.Table.{line}
 use Rattle.graphs.specs.declared.Edge.{Edge}
 use Rattle.graphs.specs.Records.{node, edge_at, edges_in, records_in}
 use Rattle.generated.specs.Machine.{choice_of, test_holds, serves, same_node, edge_for, generated_step}
 use Rattle.generated.specs.declared.Generated.{Generated}
 use Rattle.runs.specs.Run.{back, takes}
-use Rattle.edges.specs.declared.Named.{Named}
-use Rattle.edges.specs.declared.Named.TheVariants as N
-use Rattle.edges.specs.declared.Taken.{Taken}
-use Rattle.edges.specs.declared.Taken.TheVariants as T
-use Rattle.edges.specs.Answers.{named, taken}
-use Rattle.edges.proofs.Laws.{op_in, junk, is-named}
+use Rattle.edges.specs.Sought.{records_of}
+use Rattle.edges.proofs.Chunks.{edge-read}
 use Rattle.edges.proofs.Scan.{collect-more, collect-end, scan-all}
 use Rattle.held.specs.declared.Machine.{Machine}
 use Rattle.held.specs.Held.{step_along, world_of, next_for, stepped, own_at}
-use Rattle.held.specs.Few.{edge_of, idle, or_idle, placed, few}
+use Rattle.held.specs.Few.{edge_of, idle, placed, few}
 
 module _ (t : List ℕ) (k : ℕ) where
-  pub past_end : records_in 7 t ≤ k → T.Nothing ≡ taken (edge_of t k)
-  unfolding edge_of
+  pub past_end : records_in 7 t ≤ k → None ≡ option_of (edge_of t k)
+  unfolding edge_of option_of
   past_end h = rw (lt-false k (records_in 7 t) h)
 
-  -- the code's way to `edge_of`: r is the record's operation
-  module _ (h : k < records_in 7 t) (r : Named) (e : r ≡ named (op_in t k)) where
-    pub no_edge : r ≡ N.Junk → T.Nothing ≡ taken (edge_of t k)
-    unfolding edge_of edge_at
-    no_edge q = rw (lt-true k (records_in 7 t) h, junk (op_in t k) (sym e ∙ q))
+  -- the code's way to `edge_of`: rs are the table's records
+  pub edge-there : (rs : List (List ℕ)) → rs ≡ records_of t → length rs ≡ records_in 7 t → k < length rs → (x : List ℕ) → x ≡ get_or rs k x → (r : code.Option Edge) → r ≡ option_of (edge_at x 0) → r ≡ option_of (edge_of t k)
+  unfolding edge_of
+  edge-there rs e l h x p r q =
+      let i : k < records_in 7 t = omega (arith, l, h) in
+      rw (lt-true k (records_in 7 t) i) (q ∙ ap (λ (y : List ℕ). option_of (edge_at y 0)) (p ∙ get_or_default rs k x [] h) ∙ ap option_of (edge-read t rs e k i))
 
-    pub edge-there : (o : Op) → r ≡ N.Is o → T.Along (record { from = node (t ! (7 * k)); to = node (t ! (7 * k + 1)); op = o }) ≡ taken (edge_of t k)
-    unfolding edge_of edge_at
-    edge-there o q = rw (lt-true k (records_in 7 t) h, is-named (op_in t k) o (sym e ∙ q))
+-- what calls of a function that stays as it is, at each number below n, gave of it
+module _ {F B : Type 0} (g : Mut F (ℕ × Unit {0}) B) (f : F) (h : ℕ → B) (told : (k : ℕ) (y : B) (q : F) → Called g f (k, tt) y q → (q ≡ f) × (y ≡ h k)) (ys : List B) (d : B) where
+  made-at : (i n : ℕ) (p : F) → p ≡ f → IsFromFnResultFrom g p ys i n → (k : ℕ) → i ≤ k → k < i + n → get_or ys k d ≡ h k
+  made-at i zero p e r k l m = absurd (omega arith)
+  made-at i (suc n) p e (q, y, at, c, rest) k l m = go (λ u. made-at (i + 1) n q came.0 rest k u (omega (arith, m))) (ltb i k) refl
+    where
+      came : (q ≡ f) × (y ≡ h i)
+      came = told i y q (subst (λ (x : F). Called g x (i, tt) y q) e c)
 
-  -- the code's way to `placed`: r is what the record is
-  module _ (r : Taken) (e : r ≡ taken (edge_of t k)) where
-    pub placed-idle : r ≡ T.Nothing → idle ≡ placed t k
-    placed-idle q = ap or_idle (sym q ∙ e)
+      go : (i + 1 ≤ k → get_or ys k d ≡ h k) → (b : Bool) → ltb i k ≡ b → get_or ys k d ≡ h k
+      go on true u = on (omega (arith, true-lt i k u))
+      go on false u = let same : k ≡ i = omega (arith, false-lt i k u, l) in rw same (at.1 d ∙ came.1)
 
-    pub placed-there : (g : Edge) → r ≡ T.Along g → g ≡ placed t k
-    placed-there g q = ap or_idle (sym q ∙ e)
-
-pub few-done : (t : List ℕ) (a b c d e f g h : Edge)
-    → a ≡ placed t 0 → b ≡ placed t 1 → c ≡ placed t 2 → d ≡ placed t 3 → e ≡ placed t 4 → f ≡ placed t 5 → g ≡ placed t 6 → h ≡ placed t 7
-    → a ∷ b ∷ c ∷ d ∷ e ∷ f ∷ g ∷ h ∷ [] ≡ few t
-unfolding few
-few-done t a b c d e f g h p₀ p₁ p₂ p₃ p₄ p₅ p₆ p₇ = λ i. p₀ i ∷ p₁ i ∷ p₂ i ∷ p₃ i ∷ p₄ i ∷ p₅ i ∷ p₆ i ∷ p₇ i ∷ []
+  pub made-list : (n : ℕ) → IsFromFnResult g f ys n → ys ≡ map h (range_with_len 0 n)
+  made-list n r = fill_by_all h ys n d r.long (λ k l. made-at 0 n f refl r.each k (omega arith) (omega arith))
 
 -- the edges of j records from k on
 abbrev places_from : List ℕ → ℕ → ℕ → List Edge
@@ -65,6 +68,9 @@ places_from t k zero = []
 places_from t k (suc j) = placed t k ∷ places_from t (suc k) j
 
 module _ (n : Node) (c : ℕ) (R : List ℕ) where
+  abbrev or_idle : Option Edge → Edge
+  or_idle o = unwrap_or (option_of o) idle
+
   abbrev sought : List Edge → Option Edge
   sought es = edge_for es n c R
 
@@ -81,8 +87,8 @@ module _ (n : Node) (c : ℕ) (R : List ℕ) where
     idle-skipped : (es : List Edge) → sought (idle ∷ es) ≡ sought es
     idle-skipped es = skipped 4294967295 es (omega arith)
 
-    on : (o : Option Edge) (es fs : List Edge) → sought es ≡ sought fs → sought (or_idle (taken o) ∷ es) ≡ sought (listed o ++ fs)
-    unfolding edge_for first listed
+    on : (o : Option Edge) (es fs : List Edge) → sought es ≡ sought fs → sought (or_idle o ∷ es) ≡ sought (listed o ++ fs)
+    unfolding edge_for first listed option_of
     on none es fs q = idle-skipped es ∙ q
     on (some e) es fs q = ap (λ (x : Option Edge). cond (same_node e.from n && serves c R e.op) (some e) x) q
 
@@ -95,19 +101,20 @@ module _ (n : Node) (c : ℕ) (R : List ℕ) where
     gone k h = rw (lt-false k (records_in 7 t) h)
 
     placed-from : (j k : ℕ) → records_in 7 t ≤ k + j → sought (places_from t k j) ≡ sought (collect (edge_at t) k (records_in 7 t - k))
+    unfolding placed
     placed-from zero k h = sym (ap sought (collect-end (edge_at t) k (records_in 7 t) (omega (arith, h))))
     placed-from (suc j) k h = go (placed-from j (suc k) (omega (arith, h))) (ltb k (records_in 7 t)) refl
       where
         go : sought (places_from t (suc k) j) ≡ sought (collect (edge_at t) (suc k) (records_in 7 t - suc k)) → (b : Bool) → ltb k (records_in 7 t) ≡ b → sought (places_from t k (suc j)) ≡ sought (collect (edge_at t) k (records_in 7 t - k))
         go rest true p =
             let l = true-lt k (records_in 7 t) p in
-            ap (λ (o : Option Edge). sought (or_idle (taken o) ∷ places_from t (suc k) j)) (there k l)
+            ap (λ (o : Option Edge). sought (or_idle o ∷ places_from t (suc k) j)) (there k l)
             ∙ on (edge_at t k) (places_from t (suc k) j) (collect (edge_at t) (suc k) (records_in 7 t - suc k)) rest
             ∙ ap (λ (i : ℕ). sought (listed (edge_at t k) ++ collect (edge_at t) i (records_in 7 t - i))) (sym (add-one k))
             ∙ ap sought (sym (collect-more (edge_at t) k (records_in 7 t) l))
         go rest false p =
             let l = false-lt k (records_in 7 t) p in
-            ap (λ (o : Option Edge). sought (or_idle (taken o) ∷ places_from t (suc k) j)) (gone k l)
+            ap (λ (o : Option Edge). sought (or_idle o ∷ places_from t (suc k) j)) (gone k l)
             ∙ idle-skipped (places_from t (suc k) j)
             ∙ rest
             ∙ ap sought (collect-end (edge_at t) (suc k) (records_in 7 t) (omega (arith, l)))
@@ -123,7 +130,7 @@ pub few-step : (m : Machine) (tab : List ℕ) (t c : ℕ) → c < 2 ^ 32 → rec
 unfolding stepped takes back step_along generated_step
 few-step m tab t c fits h = go (own_at m t)
   where
-    go : (o : Option Generated) → next_for (bind o (λ (a : Generated). map (back (λ _. generated_step tab) (world_of m) t) (step_along (few tab) c (record { memory = m.memory; own = a })))) m
-        ≡ next_for (bind o (λ (a : Generated). map (back (λ _. generated_step tab) (world_of m) t) (generated_step tab c (record { memory = m.memory; own = a })))) m
+    go : (o : Option Generated) → next_for (bind o (λ (a : Generated). maybe.map (back (λ _. generated_step tab) (world_of m) t) (step_along (few tab) c (record { memory = m.memory; own = a })))) m
+        ≡ next_for (bind o (λ (a : Generated). maybe.map (back (λ _. generated_step tab) (world_of m) t) (generated_step tab c (record { memory = m.memory; own = a })))) m
     go none = refl
     go (some a) = rw (few-found a.node c a.registers fits tab h)

@@ -1,37 +1,34 @@
 -- The first thread that is refused, thread by thread, as the code finds it.
-use mathlib.Core.Path.{◌≡◌, refl, ap, ◌∙◌}
+use mathlib.Core.Path.{◌≡◌, refl, sym, ap, ◌∙◌}
 use mathlib.Core.Option.{Option, none, some}
-use mathlib.Core.List.{List, [], ◌∷◌}
+use mathlib.Core.List.{List, []}
 use lib.ListN.{get_or}
+use lib.Dec.{ltb, eqb}
+use mathlib.Core.Bool.{Bool, true, false, ◌||◌}
+use denote.Ref.{Bor}
+use Rattle.lists.specs.Slices.{contents}
+use Rattle.lists.proofs.Slices.{content-at}
 use Rattle.checks.specs.Checks.{admission}
 use Prim.Native.Nat.{ℕ, suc, ◌+◌, ◌-◌, ◌≤◌, ◌<◌}
 use native.Mathlib.Numerals.{add-one}
 use native.Mathlib.Omega.{arith}
-use Rattle.lists.proofs.Tests.{eq-false, lt-true, lt-false}
+use Rattle.lists.proofs.Tests.{eq-false, lt-true, false-lt}
 use Rattle.thread.specs.declared.Refusal.{Refusal}
 use Rattle.thread.specs.declared.Refusal.TheVariants as R
 use Rattle.thread.specs.Sizes.{most_threads}
 use Rattle.runs.specs.Run.{Bad, bad_threads, first_bad, threads_refused}
-use Rattle.admit.specs.declared.Admission.{Admission}
-use Rattle.admit.specs.declared.Admission.TheVariants as A
-use Rattle.admit.specs.Answer.{answer}
-use Rattle.judge.specs.declared.Judged.{Judged}
-use Rattle.judge.specs.declared.Judged.TheVariants as J
-use Rattle.judge.specs.Answers.{judged}
+use Rattle.std.specs.Prelude.{Ok, Err}
+use Rattle.admit.specs.Answer.{Answer, answer}
+use Rattle.admit.proofs.Answers.{answer-accepted, answer-refused}
+use Rattle.judge.specs.Answers.{Judged, judged}
 
--- 2 to 10 of each of four threads
-abbrev pub refusals : ℕ → List ℕ → List ℕ → List ℕ → List ℕ → ℕ → Option Refusal
-refusals model t0 t1 t2 t3 t = admission model (get_or (t0 ∷ t1 ∷ t2 ∷ t3 ∷ []) t [])
+-- 2 to 10 of each thread
+abbrev pub refusals : ℕ → List (Bor (List ℕ)) → ℕ → Option Refusal
+refusals model tables t = admission model (get_or (contents tables) t [])
 
-was-refused : (o : Option Refusal) (a : Admission) (r : Refusal) → a ≡ answer o → a ≡ A.Refused r → o ≡ some r
-unfolding answer
-was-refused none a r e f = let z : A.Accepted ≡ A.Refused r = cc in cc
-was-refused (some q) a r e f = let z : A.Refused q ≡ A.Refused r = cc in let p : q ≡ r = cc in ap some p
-
-was-accepted : (o : Option Refusal) (a : Admission) → a ≡ answer o → a ≡ A.Accepted → o ≡ none
-unfolding answer
-was-accepted none a e f = refl
-was-accepted (some q) a e f = let z : A.Refused q ≡ A.Accepted = cc in cc
+-- the table of thread t, read through the slices
+pub read : (model : ℕ) (tables : List (Bor (List ℕ))) (t : ℕ) → answer (admission model (get_or tables t (record { ref_ptr = (0, 0); now = [] })).now) ≡ answer (refusals model tables t)
+read model tables t = ap (λ (l : List ℕ). answer (admission model l)) (content-at tables t _ refl)
 
 module _ (refusal : ℕ → Option Refusal) where
   -- one thread more
@@ -42,14 +39,14 @@ module _ (refusal : ℕ → Option Refusal) where
   unfolding first_bad
   pass_on t k e = let f : t + 1 ≡ suc t = add-one t in rw (f, e, first_bad)
 
-  module _ (t n : ℕ) (h : t < n) (a : Admission) (e : a ≡ answer (refusal t)) where
-    pub bad-here : (r : Refusal) → a ≡ A.Refused r → first_bad refusal t (n - t) ≡ some (record { thread = t; refusal = r })
+  module _ (t n : ℕ) (h : t < n) {a : Answer} (e : a ≡ answer (refusal t)) where
+    pub bad-here : (r : Refusal) → a ≡ Err r → first_bad refusal t (n - t) ≡ some (record { thread = t; refusal = r })
     unfolding first_bad
-    bad-here r f = first-turn t n h ∙ rw (was-refused (refusal t) a r e f, first_bad)
+    bad-here r f = first-turn t n h ∙ rw (answer-refused (refusal t) e r f, first_bad)
 
-    pub bad-later : a ≡ A.Accepted → first_bad refusal t (n - t) ≡ first_bad refusal (t + 1) (n - (t + 1))
+    pub bad-later : a ≡ Ok tt → first_bad refusal t (n - t) ≡ first_bad refusal (t + 1) (n - (t + 1))
     unfolding first_bad
-    bad-later f = first-turn t n h ∙ pass_on t (n - (t + 1)) (was-accepted (refusal t) a e f)
+    bad-later f = first-turn t n h ∙ pass_on t (n - (t + 1)) (answer-accepted (refusal t) e f)
 
   pub bad-nowhere : (t n : ℕ) → n ≤ t → first_bad refusal t (n - t) ≡ none
   unfolding first_bad
@@ -57,32 +54,44 @@ module _ (refusal : ℕ → Option Refusal) where
 
   -- 14, and then the threads
   module _ (count : ℕ) where
-    pub no_threads : count ≡ 0 → threads_refused refusal count ≡ some (record { thread = 0; refusal = R.BadThreads })
+    no_threads : count ≡ 0 → threads_refused refusal count ≡ some (record { thread = 0; refusal = R.BadThreads })
     unfolding threads_refused bad_threads
     no_threads e = rw (e, threads_refused)
 
-    pub many-threads : 4 < count → threads_refused refusal count ≡ some (record { thread = 0; refusal = R.BadThreads })
+    many-threads : 4 < count → threads_refused refusal count ≡ some (record { thread = 0; refusal = R.BadThreads })
     unfolding threads_refused bad_threads
     many-threads h = rw (eq-false count 0 (λ e. omega arith), lt-true most_threads count h, threads_refused)
 
-    pub many_told : 4 < count → J.Bad 0 R.BadThreads ≡ judged (threads_refused refusal count)
-    unfolding judged
-    many_told h = rw (many-threads h)
+    pub wrong-threads : bad_threads count ≡ true → Err (0, R.BadThreads) ≡ judged (threads_refused refusal count)
+    unfolding judged threads_refused
+    wrong-threads e = rw (e, threads_refused)
 
-    pub right-threads : (count ≡ 0 → ⊥) → count ≤ 4 → threads_refused refusal count ≡ first_bad refusal 0 count
-    unfolding threads_refused bad_threads
-    right-threads n h = rw (eq-false count 0 n, lt-false most_threads count h, threads_refused)
+    pub right-threads : bad_threads count ≡ false → threads_refused refusal count ≡ first_bad refusal 0 count
+    unfolding threads_refused
+    right-threads e = rw (e, threads_refused)
 
-pub is-bad : (o : Option Bad) (t : ℕ) (r : Refusal) (j : Judged) → j ≡ judged o → j ≡ J.Bad t r → o ≡ some (record { thread = t; refusal = r })
-unfolding judged
-is-bad none t r j e f = let z : J.Fine ≡ J.Bad t r = cc in cc
-is-bad (some b) t r j e f =
-    let z : J.Bad b.thread b.refusal ≡ J.Bad t r = cc in
-    let p : b.thread ≡ t = cc in
-    let q : b.refusal ≡ r = cc in
-    λ i. some (record { thread = p i; refusal = q i })
+pub few_threads : (count : ℕ) → bad_threads count ≡ false → count ≤ 4
+unfolding bad_threads
+few_threads count e = false-lt 4 count (second (eqb count 0) (ltb 4 count) e)
+  where
+    second : (a b : Bool) → a || b ≡ false → b ≡ false
+    second true b e = cc
+    second false b e = e
 
-pub is-fine : (o : Option Bad) (j : Judged) → j ≡ judged o → j ≡ J.Fine → o ≡ none
-unfolding judged
-is-fine none j e f = refl
-is-fine (some b) j e f = let z : J.Bad b.thread b.refusal ≡ J.Fine = cc in cc
+-- what is judged says of the first thread that is refused
+module _ (o : Option Bad) {j : Judged} (e : j ≡ judged o) where
+  pub is-fine : j ≡ Ok tt → o ≡ none
+  unfolding judged
+  is-fine f = go o (sym e ∙ f)
+    where
+      go : (o : Option Bad) → judged o ≡ Ok tt → o ≡ none
+      go none h = refl
+      go (some b) h = cc
+
+  pub is-bad : (t : ℕ) (r : Refusal) → j ≡ Err (t, r) → o ≡ some (record { thread = t; refusal = r })
+  unfolding judged
+  is-bad t r f = go o (sym e ∙ f)
+    where
+      go : (o : Option Bad) → judged o ≡ Err (t, r) → o ≡ some (record { thread = t; refusal = r })
+      go none h = cc
+      go (some b) h = let p : (b.thread, b.refusal) ≡ (t, r) = cc in ap (λ (q : ℕ × Refusal). some (record { thread = q.0; refusal = q.1 })) p

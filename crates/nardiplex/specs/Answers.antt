@@ -1,11 +1,8 @@
 -- What the C interface passes back: each answer as four numbers, beside the contents of the lent areas.
 use Rattle.std.specs.Prelude.{◌≡◌, ℕ, List, [], ◌∷◌}
-use Rattle.text.specs.declared.Reading.{Reading}
-use Rattle.text.specs.Read.{ReadAnswer, read_answer, read}
-use Rattle.graphs.specs.declared.Built.{Built}
-use Rattle.graphs.specs.Build.{BuildAnswer, build_answer, build}
-use Rattle.runs.specs.declared.Ended.{Ended}
-use Rattle.runs.specs.Run.{RunAnswer, run_answer}
+use Rattle.text.specs.Read.{Reading, ReadAnswer, read_answer, read}
+use Rattle.graphs.specs.Build.{Answer, BuildAnswer, build_answer, build}
+use Rattle.runs.specs.Run.{Ended, RunAnswer, run_answer}
 use Rattle.generated.specs.RunGenerated.{GeneratedResult}
 use Rattle.shown.specs.declared.Ran.{Ran}
 use Rattle.shown.specs.Ran.{ran_of}
@@ -21,7 +18,7 @@ pub record ReadPassed (text : List ℕ) (room : ℕ) (table answer : List ℕ) :
   pub answered : answer ≡ read_numbers (read room text).answer
 
 -- number, place, nodes, edges
-unfoldable pub build_numbers : Built → List ℕ
+unfoldable pub build_numbers : Answer → List ℕ
 unfolding build_answer
 build_numbers r = let a : BuildAnswer = build_answer r in a.number ∷ a.place ∷ a.nodes ∷ a.edges ∷ []
 

@@ -11,30 +11,29 @@ ghost use Rattle.nardiplex.specs.State.{thread_numbers, state_numbers};
 ghost use Rattle.nardiplex.specs.Answers.{read_numbers, ReadPassed, build_numbers, BuildPassed, run_numbers, RunPassed, GeneratedPassed};
 
 use graphs::Built;
-use runs::Ended;
+use runs::{Ended, Unfinished};
 use shown::{Ran, ThreadState};
-use text::Reading;
-use thread::{Refusal, number_of, place_of};
+use thread::Refusal;
 
 // number, place, model, lines
 #[tactic(auto, unfolding(crate::specs::Answers::read_numbers))]
-fn read_numbers(reading: Reading) -> [u64; 4]
+fn read_numbers(reading: Result<(u32, u32), Refusal>) -> [u64; 4]
     ensures { result ≡ read_numbers reading }
 {
     match reading {
-        Reading::Read(model, lines) => [0, 0, model as u64, lines as u64],
-        Reading::Refused(r) => [number_of(r), place_of(r), 0, 0],
+        Ok((model, lines)) => [0, 0, model as u64, lines as u64],
+        Err(r) => [r.number(), r.place(), 0, 0],
     }
 }
 
 // number, place, nodes, edges
 #[tactic(auto, unfolding(crate::specs::Answers::build_numbers))]
-fn build_numbers(built: Built) -> [u64; 4]
+fn build_numbers(built: Result<Built, Refusal>) -> [u64; 4]
     ensures { result ≡ build_numbers built }
 {
     match built {
-        Built::Graph(nodes, edges) => [0, 0, nodes as u64, edges as u64],
-        Built::Refused(r) => [number_of(r), place_of(r), 0, 0],
+        Ok(b) => [0, 0, b.nodes as u64, b.edges as u64],
+        Err(r) => [r.number(), r.place(), 0, 0],
     }
 }
 
@@ -44,11 +43,11 @@ fn run_numbers(ended: Ended) -> [u64; 4]
     ensures { result ≡ run_numbers ended }
 {
     match ended {
-        Ended::Done(steps) => [0, 0, 0, steps],
-        Ended::Refused(thread, r) => [number_of(r), place_of(r), thread as u64, 0],
-        Ended::Stopped(item) => {
+        Ok(steps) => [0, 0, 0, steps],
+        Err(Unfinished::Refused(thread, r)) => [r.number(), r.place(), thread as u64, 0],
+        Err(Unfinished::Stopped(item)) => {
             let r = Refusal::NoSuchStep(item);
-            [number_of(r), place_of(r), 0, item]
+            [r.number(), r.place(), 0, item]
         }
     }
 }
@@ -66,11 +65,7 @@ fn put_sixteen(state: &mut [u32], at: usize, numbers: [u32; 16])
     requires { at + 16 ≤ length state.old }
     ensures { take (at + 16) state.new ≡ take at state.old ++ numbers }
 {
-    let mut i: usize = 0;
-    while i < 16 {
-        state[at + i] = numbers[i];
-        i += 1;
-    }
+    state[at..at + 16].copy_from_slice(&numbers);
 }
 
 // a thread's numbers, from place `at` on
@@ -152,7 +147,12 @@ pub extern "C" fn nardiplex_run_buffered(
     ensures { RunPassed (buffered_ran (run_buffered (start_of model threads (t0.now ∷ t1.now ∷ t2.now ∷ t3.now ∷ []) memory.now registers.now schedule.now))) state.new answer.new }
 {
     let ran = run_buffered::run_buffered(
-        model, threads, t0, t1, t2, t3, *memory, *registers, schedule,
+        model,
+        threads,
+        &[t0, t1, t2, t3],
+        *memory,
+        *registers,
+        schedule,
     );
     pass(ran, state, answer);
 }
@@ -183,7 +183,19 @@ pub extern "C" fn nardiplex_run_generated(
     ensures { GeneratedPassed (run_generated (start_of model threads (t0.now ∷ t1.now ∷ t2.now ∷ t3.now ∷ []) memory.now registers.now schedule.now) (rooms_of (n0.old ∷ n1.old ∷ n2.old ∷ n3.old ∷ []) (e0.old ∷ e1.old ∷ e2.old ∷ e3.old ∷ []))) (n0.new ∷ n1.new ∷ n2.new ∷ n3.new ∷ []) (e0.new ∷ e1.new ∷ e2.new ∷ e3.new ∷ []) state.new answer.new }
 {
     let ran = run_generated::run_generated(
-        model, threads, t0, t1, t2, t3, n0, e0, n1, e1, n2, e2, n3, e3, *memory, *registers,
+        model,
+        threads,
+        &[t0, t1, t2, t3],
+        n0,
+        e0,
+        n1,
+        e1,
+        n2,
+        e2,
+        n3,
+        e3,
+        *memory,
+        *registers,
         schedule,
     );
     pass(ran, state, answer);

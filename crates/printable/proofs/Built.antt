@@ -1,4 +1,6 @@
 -- The records that the builder leaves stand in the order of their nodes, with counts and operations in range: they can be printed.
+use Rattle.graphs.proofs.Answers.{same-counts}
+use Rattle.std.specs.Prelude.{Ok}
 use mathlib.Core.Path.{◌≡◌, refl, sym, ap, ◌∙◌}
 use Prim.Native.Nat.{ℕ, zero, suc, ◌+◌, ◌-◌, ◌*◌, ◌/◌, ◌≤◌, ◌<◌}
 use native.Mathlib.Nat.{min-le_right}
@@ -21,10 +23,9 @@ use Rattle.thread.specs.Table.{instr_at}
 use Rattle.checks.specs.Checks.{model_of}
 use Rattle.checks.proofs.Given.{Admitted, admitted}
 use Rattle.graphs.specs.declared.Edge.{Edge}
-use Rattle.graphs.specs.declared.Built.TheVariants as B
 use Rattle.graphs.specs.Graph.{Standing, begin, graph_system}
 use Rattle.graphs.specs.Records.{line_number, numbered, node_record, edge_record, flat}
-use Rattle.graphs.specs.Build.{Result, refusal, cap_of, accepted, build}
+use Rattle.graphs.specs.Build.{counted, Result, refusal, cap_of, accepted, build}
 use Rattle.graphs.proofs.Records.{flat-length, at-record, all-nodes, node-width, all_edges, edge-width}
 use Rattle.graphs.proofs.TheGraph.{Fit}
 use Rattle.graphs.proofs.Given.{Accepted, accepted-when}
@@ -237,30 +238,30 @@ pub built-is-graph : BuiltIsGraph
 unfolding accepted
 built-is-graph model t node_room edge_room n m e g =
     let a : Accepted model t node_room edge_room = accepted-when model t node_room edge_room e in
-    let c : B.Graph n m ≡ B.Graph (length a.graph.nodes) (length a.graph.edges) = sym g ∙ counts-true model t node_room edge_room a e in
-    let p : n ≡ length a.graph.nodes = cc in
-    let q : m ≡ length a.graph.edges = cc in
+    let c : Ok (counted n m) ≡ Ok (counted (length a.graph.nodes) (length a.graph.edges)) = sym g ∙ counts-true model t node_room edge_room a e in
+    let p : n ≡ length a.graph.nodes = (same-counts c).0 in
+    let q : m ≡ length a.graph.edges = (same-counts c).1 in
     rw (p, q, when-accepted model t node_room edge_room a e) (accepted-is-graph model t node_room edge_room a)
 
 pub always-written : AlwaysWritten
 always-written model t n m room e g small-nodes small-edges r =
     let a : Accepted model t node_room edge_room = accepted-when model t node_room edge_room e in
     let built : Result = build model t node_room edge_room in
-    let c : B.Graph n m ≡ B.Graph (length a.graph.nodes) (length a.graph.edges) = sym g ∙ counts-true model t node_room edge_room a e in
-    let p : n ≡ length a.graph.nodes = cc in
-    let q : m ≡ length a.graph.edges = cc in
+    let c : Ok (counted n m) ≡ Ok (counted (length a.graph.nodes) (length a.graph.edges)) = sym g ∙ counts-true model t node_room edge_room a e in
+    let p : n ≡ length a.graph.nodes = (same-counts c).0 in
+    let q : m ≡ length a.graph.edges = (same-counts c).1 in
     let few-nodes : n ≤ room_nodes = omega (arith, a.right.fits, min-le_right most_nodes (node_room / node_width)) in
     let few-edges : m ≤ room_edges = omega (arith, a.fits) in
     room-enough model n m built.nodes built.edges small-nodes small-edges (built-is-graph model t node_room edge_room n m e g) few-nodes few-edges room r
 
-built-unused : (model : ℕ) (t : List ℕ) (a b n m : ℕ) → refusal model t a b ≡ none → (build model t a b).answer ≡ B.Graph n m
+built-unused : (model : ℕ) (t : List ℕ) (a b n m : ℕ) → refusal model t a b ≡ none → (build model t a b).answer ≡ Ok (counted n m)
     → UnusedZero n m (build model t a b).nodes (build model t a b).edges
 unfolding accepted
 built-unused model t node_room edge_room n m e g =
     let a : Accepted model t node_room edge_room = accepted-when model t node_room edge_room e in
-    let c : B.Graph n m ≡ B.Graph (length a.graph.nodes) (length a.graph.edges) = sym g ∙ counts-true model t node_room edge_room a e in
-    let p : n ≡ length a.graph.nodes = cc in
-    let q : m ≡ length a.graph.edges = cc in
+    let c : Ok (counted n m) ≡ Ok (counted (length a.graph.nodes) (length a.graph.edges)) = sym g ∙ counts-true model t node_room edge_room a e in
+    let p : n ≡ length a.graph.nodes = (same-counts c).0 in
+    let q : m ≡ length a.graph.edges = (same-counts c).1 in
     rw (p, q, when-accepted model t node_room edge_room a e) (accepted-unused model t node_room edge_room a)
 
 pub built-read-back : BuiltReadBack

@@ -1,11 +1,9 @@
 -- What is promised of a built graph that is printed: it is written, whatever the thread.
-use Rattle.std.specs.Prelude.{◌≡◌, ℕ, ◌≤◌, List, length}
+use Rattle.std.specs.Prelude.{◌≡◌, ℕ, ◌≤◌, List, length, Ok}
 use Rattle.std.proofs.Math.Option.{none}
 use Rattle.thread.specs.Numbers.{◌!◌, filled}
 use Rattle.decimal.specs.Decimal.{most}
-use Rattle.graphs.specs.declared.Built.TheVariants as B
-use Rattle.graphs.specs.Build.{refusal, build}
-use Rattle.printed.specs.declared.Printed.TheVariants as P
+use Rattle.graphs.specs.Build.{counted, refusal, build}
 use Rattle.printed.specs.Graph.{graph_text}
 use Rattle.printed.specs.IsGraph.{IsGraph}
 use Rattle.printed.specs.Printed.{print', printed}
@@ -17,7 +15,7 @@ abbrev pub BuiltIsGraph : Type 0
 BuiltIsGraph =
     (model : ℕ) (t : List ℕ) (a b n m : ℕ)
     → refusal model t a b ≡ none
-    → (build model t a b).answer ≡ B.Graph n m
+    → (build model t a b).answer ≡ Ok (counted n m)
     → IsGraph model n m (build model t a b).nodes (build model t a b).edges
 
 -- in the printing program's rooms it is always written: neither of the printer's own two answers can happen
@@ -27,11 +25,11 @@ AlwaysWritten =
     → let built = build model t node_room edge_room in
     let text = graph_text model n m built.nodes built.edges in
     refusal model t node_room edge_room ≡ none
-    → built.answer ≡ B.Graph n m
+    → built.answer ≡ Ok (counted n m)
     → ((i : ℕ) → built.nodes ! i ≤ most)
     → ((i : ℕ) → built.edges ! i ≤ most)
     → room_text ≤ room
-    → printed model n m built.nodes built.edges room ≡ print' (P.Written (length text)) (filled room text)
+    → printed model n m built.nodes built.edges room ≡ print' (Ok (length text)) (filled room text)
 
 -- "reading the printed text back .. gives the same graph": two built graphs that print alike have the same model, counts and records
 abbrev pub BuiltReadBack : Type 0
@@ -41,7 +39,7 @@ BuiltReadBack =
     let built' = build model' t' a' b' in
     refusal model t a b ≡ none
     → refusal model' t' a' b' ≡ none
-    → built.answer ≡ B.Graph n m
-    → built'.answer ≡ B.Graph n' m'
+    → built.answer ≡ Ok (counted n m)
+    → built'.answer ≡ Ok (counted n' m')
     → graph_text model n m built.nodes built.edges ≡ graph_text model' n' m' built'.nodes built'.edges
     → (model ≡ model') × (n ≡ n') × (m ≡ m') × SameRecords n m built.nodes built.edges built'.nodes built'.edges

@@ -12,17 +12,17 @@ use Rattle.decimal.specs.Decimal.{decimal, most}
 use Rattle.decimal.proofs.Reading.{ten-digits}
 use Rattle.thread.specs.Numbers.{◌!◌, filled}
 use Rattle.thread.specs.Names.{op_name, op_names, model_name, model_names}
-use Rattle.printed.specs.declared.Printed.TheVariants as P
+use Rattle.std.specs.Prelude.{Ok}
 use Rattle.printed.specs.Text.{Field, Line, tabbed, line_text, lines_text, up_from, numbers_from}
 use Rattle.printed.specs.Graph.{node_word, edge_word, graph_word, line_of, count_of, waiting_of, from_of, to_of, op_of, field_count, fields_of, node_fields, edge_fields, graph_fields, nodes_lines, graph_lines, graph_text, refused_word, refusal_text}
 use Rattle.printed.specs.IsGraph.{EdgesFit, is_graph, IsGraph}
 use Rattle.printed.specs.Printed.{print', fitted, printed, printed_refusal}
 use Rattle.printed.specs.Room.{room_nodes, room_edges, room_text}
 use Rattle.printed.specs.Steps.{run_length}
-use Rattle.printed.proofs.Names.{few-fields}
-use Rattle.printed.proofs.Runs.{turn, small, fit-turn, lines-append}
+use Rattle.printed.proofs.Names.{few_fields}
+use Rattle.printed.proofs.Runs.{turn, small, fit_turn, lines-append}
 use Rattle.printed.proofs.Words.{is-graph, words-fit}
-use Rattle.printed.proofs.Ending.{printed-graph}
+use Rattle.printed.proofs.Ending.{printed_graph}
 
 -- fields of at most ten bytes
 tabbed-length : (l : List ℕ) → All (λ x. x ≤ most) l → length (tabbed (map decimal l)) ≤ 11 * length l
@@ -85,7 +85,7 @@ module _ (nt et : List ℕ) (small-nodes : (i : ℕ) → nt ! i ≤ most) (small
         ten-digits (from_of et j) (small-edges (7 * j)),
         ten-digits (to_of et j) (small-edges (7 * j + 1)),
         op-length (op_of et j),
-        few-fields (op_of et j),
+        few_fields (op_of et j),
         numbers-length et (7 * j + 3) (field_count (op_of et j)),
       ))
 
@@ -119,7 +119,7 @@ module _ (nt et : List ℕ) (small-nodes : (i : ℕ) → nt ! i ≤ most) (small
     nodes-length zero k j e f = rw (none-length (up_from j (m - j)) k) (omega arith)
     nodes-length (suc x) k j e f =
         let end : ℕ = j + run_length et k (up_from j (m - j)) in
-        let f' : EdgesFit et n (suc k) (up_from end (m - end)) = rw add-one at (fit-turn nt et n m k j end f refl) in
+        let f' : EdgesFit et n (suc k) (up_from end (m - end)) = rw add-one at (fit_turn nt et n m k j end f refl) in
         let ih = nodes-length x (suc k) end (omega arith) f' in
         rw (turn-length n m k j f x end refl)
         (omega (arith, node-length k (omega arith) (c k (omega arith)), edges-length j (end - j), small nt et n m k j end f refl))
@@ -138,11 +138,11 @@ module _ (model n m : ℕ) (nt et : List ℕ) (small-nodes : (i : ℕ) → nt ! 
 
   -- neither of our own two answers can happen where the paper's room is lent: such a graph is written
   pub room-enough : IsGraph model n m nt et → n ≤ room_nodes → m ≤ room_edges → (room : ℕ) → room_text ≤ room
-      → printed model n m nt et room ≡ print' (P.Written (length (graph_text model n m nt et))) (filled room (graph_text model n m nt et))
+      → printed model n m nt et room ≡ print' (Ok (length (graph_text model n m nt et))) (filled room (graph_text model n m nt et))
   unfolding fitted
   room-enough g a b room r =
       let l = text-length g (omega arith) (omega arith) in
-      printed-graph model n m nt et room (is_true (is_graph model n m nt et) ((is-graph model n m nt et).1 g))
+      printed_graph model n m nt et room (is_true (is_graph model n m nt et) ((is-graph model n m nt et).1 g))
       ∙ rw (le-true (length (graph_text model n m nt et)) room (omega arith))
 
 -- a refusal's text is short
@@ -151,7 +151,7 @@ unfolding refusal_text
 refusal-length number place t = rw (line-length refused_word (decimal number ∷ decimal place ∷ [])) (omega arith)
 
 pub refusal-enough : (number place room : ℕ) → number ≤ most → place ≤ most → 32 ≤ room
-    → printed_refusal number place room ≡ print' (P.Written (length (refusal_text number place))) (filled room (refusal_text number place))
+    → printed_refusal number place room ≡ print' (Ok (length (refusal_text number place))) (filled room (refusal_text number place))
 unfolding printed_refusal fitted
 refusal-enough number place room a b r =
     let t = tabbed-length (number ∷ place ∷ []) (a, (b, tt)) in

@@ -20,7 +20,7 @@ use Rattle.printed.specs.IsGraph.{EdgesFit, IsGraph}
 use Rattle.printed.specs.SameGraph.{SameNode, SameEdge, SameGraph, ReadBack}
 use Rattle.printed.specs.Steps.{run_length}
 use Rattle.printed.proofs.Parse.{Starts, split, Above, Clean, Readable, lines-unique}
-use Rattle.printed.proofs.Runs.{turn, fit-turn}
+use Rattle.printed.proofs.Runs.{turn, fit_turn}
 use Rattle.printed.proofs.Words.{words-fit, edge-fits}
 
 -- every field is clean
@@ -224,8 +224,8 @@ module _ (nt et nt' et' : List ℕ) (n m : ℕ) where
       (nodes-first nt et (up_from end (m - end)) (suc k) x) (nodes-first nt' et' (up_from end' (m - end')) (suc k) x) u in
       let p = pointwise (edge_fields et) (edge_fields et') j (end - j) (end' - j) v.0 in
       let same : end' ≡ end = ends (run_length et k (up_from j (m - j))) (run_length et' k (up_from j (m - j))) p.0 in
-      let f' : EdgesFit et n (suc k) (up_from end (m - end)) = rw add-one at (fit-turn nt et n m k j end f refl) in
-      let g' : EdgesFit et' n (suc k) (up_from end' (m - end')) = rw add-one at (fit-turn nt' et' n m k j end' g refl) in
+      let f' : EdgesFit et n (suc k) (up_from end (m - end)) = rw add-one at (fit_turn nt et n m k j end f refl) in
+      let g' : EdgesFit et' n (suc k) (up_from end' (m - end')) = rw add-one at (fit_turn nt' et' n m k j end' g refl) in
       let g'' : EdgesFit et' n (suc k) (up_from end (m - end)) = subst (λ (i : ℕ). EdgesFit et' n (suc k) (up_from i (m - i))) same g' in
       let e' : rest ≡ nodes_lines nt' et' (up_from end (m - end)) (up_from (suc k) x) = v.1 ∙ ap (λ (i : ℕ). nodes_lines nt' et' (up_from i (m - i)) (up_from (suc k) x)) same in
       joined k j end h (λ i a b. p.1 i a (omega arith)) (read-nodes x (suc k) end (omega arith) f' g'' e')

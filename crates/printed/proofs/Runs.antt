@@ -3,36 +3,26 @@ use mathlib.Core.Path.{◌≡◌, refl, sym, ap, ◌∙◌}
 use mathlib.Core.Logic.{◌≢◌}
 use mathlib.Core.Bool.{Bool, true, false, cond}
 use Prim.Native.Nat.{ℕ, zero, suc, ◌+◌, ◌-◌, ◌≤◌, ◌<◌}
-use native.Mathlib.Nat.{add-zero}
 use native.Mathlib.Numerals.{add-one}
 use native.Mathlib.Omega.{arith}
 use mathlib.Core.List.{List, [], ◌∷◌, ◌++◌, append_assoc, map}
 use lib.ListN.{length, take, drop}
 use lib.Dec.{eqb}
+use Rattle.std.specs.Prelude.{Option, Some, None, not}
+use Rattle.std.specs.List.{find, range_with_len}
+use Rattle.std.specs.Option.{option_map, unwrap_or}
 use Rattle.lists.specs.Lists.{those}
-use Rattle.lists.proofs.Tests.{true-eq, false-eq, eq-true, eq-false}
+use Rattle.lists.proofs.Tests.{true-eq, false-eq, eq-false}
 use Rattle.bytes_out.specs.Page.{Page, puts}
-use Rattle.bytes_out.proofs.Page.{puts-append, puts_none}
+use Rattle.bytes_out.proofs.Pages.{puts-append, puts_none}
 use Rattle.printed.specs.Text.{Line, line_text, lines_text, up_from}
 use Rattle.printed.specs.Graph.{from_of, leaving, node_fields, edge_fields, nodes_lines}
 use Rattle.printed.specs.IsGraph.{EdgesFit}
 use Rattle.printed.specs.Steps.{run_length}
-use Rattle.printed.proofs.Lines.{up_more, up-end}
+use Rattle.printed.proofs.Lines.{up_more, up_end}
 
 -- the edges of a run
 module _ (t : List ℕ) (k : ℕ) where
-  pub run_more : (i m : ℕ) → i < m → from_of t i ≡ k → i + run_length t k (up_from i (m - i)) ≡ i + 1 + run_length t k (up_from (i + 1) (m - (i + 1)))
-  unfolding run_length
-  run_more i m h e = rw (up_more i m h, e, eq-true k) (omega arith)
-
-  pub run-stop : (i m : ℕ) → i < m → from_of t i ≢ k → i + run_length t k (up_from i (m - i)) ≡ i
-  unfolding run_length
-  run-stop i m h e = rw (up_more i m h, eq-false (from_of t i) k e) (add-zero i)
-
-  pub run_end : (i m : ℕ) → m ≤ i → i + run_length t k (up_from i (m - i)) ≡ i
-  unfolding run_length
-  run_end i m h = rw (up-end i m h) (add-zero i)
-
   run-le : (js : List ℕ) → run_length t k js ≤ length js
   unfolding run_length
   run-le [] = omega arith
@@ -41,6 +31,30 @@ module _ (t : List ℕ) (k : ℕ) where
       go : run_length t k js ≤ length js → (b : Bool) → cond b (suc (run_length t k js)) 0 ≤ suc (length js)
       go ih true = omega arith
       go ih false = omega arith
+
+-- the run ends where the search for an edge of another node does
+module _ (t : List ℕ) (k : ℕ) where
+  abbrev pub other : ℕ → Bool
+  other i = not (eqb (from_of t i) k)
+
+  run-found : (j n : ℕ) → unwrap_or (find other (range_with_len j n)) (j + n) ≡ j + run_length t k (up_from j n)
+  unfolding run_length up_from
+  run-found j zero = refl
+  run-found j (suc n) = rw add-one (go (run-found (suc j) n) (eqb (from_of t j) k))
+    where
+      go : unwrap_or (find other (range_with_len (suc j) n)) (suc j + n) ≡ suc j + run_length t k (up_from (suc j) n)
+          → (b : Bool) → unwrap_or (cond (not b) (Some j) (find other (range_with_len (suc j) n))) (j + suc n) ≡ j + cond b (suc (run_length t k (up_from (suc j) n))) 0
+      go ih true = let e : j + suc n ≡ suc j + n = omega arith in rw (e, ih) (omega arith)
+      go ih false = omega arith
+
+  pub run-end : (r : Option ℕ) (j m : ℕ) → j ≤ m → option_map (λ x. x) r ≡ find other (range_with_len j (m - j)) → unwrap_or r m ≡ j + run_length t k (up_from j (m - j))
+  run-end r j m h e =
+      let s : m ≡ j + (m - j) = omega arith in
+      ap (λ (o : Option ℕ). unwrap_or o m) (same r ∙ e) ∙ ap (λ (d : ℕ). unwrap_or (find other (range_with_len j (m - j))) d) s ∙ run-found j (m - j)
+    where
+      same : (o : Option ℕ) → o ≡ option_map (λ x. x) o
+      same None = refl
+      same (Some x) = refl
 
 above : (a b : ℕ) → a ≢ b → b ≤ a → b < a
 above a b q l = omega arith
@@ -130,8 +144,8 @@ module _ (nt et : List ℕ) (n m k j end : ℕ) (f : EdgesFit et n k (up_from j 
       let x : m - j - run_length et k (up_from j (m - j)) ≡ m - end = omega arith in
       drop-up j (m - j) (run_length et k (up_from j (m - j))) small ∙ ap (λ (i : ℕ). up_from i (m - j - run_length et k (up_from j (m - j)))) (sym e) ∙ ap (λ (i : ℕ). up_from end i) x
 
-  pub fit-turn : EdgesFit et n (k + 1) (up_from end (m - end))
-  fit-turn = rw (add-one, ← behind) (fit-run et n k (up_from j (m - j)) f)
+  pub fit_turn : EdgesFit et n (k + 1) (up_from end (m - end))
+  fit_turn = rw (add-one, ← behind) (fit-run et n k (up_from j (m - j)) f)
 
   its-run : leaving et k (up_from j (m - j)) ≡ up_from j (end - j)
   its-run =
@@ -146,11 +160,11 @@ module _ (nt et : List ℕ) (n m k j end : ℕ) (f : EdgesFit et n k (up_from j 
       ∙ ap (λ (l : List Line). (node_fields nt k ∷ map (edge_fields et) (up_from j (end - j))) ++ l)
       (later-lines nt et k (up_from j (m - j)) (suc k) x (omega arith) ∙ ap (λ (l : List ℕ). nodes_lines nt et l (up_from (suc k) x)) behind)
 
-  pub puts-turn : (p : Page) → k < n
+  pub puts_turn : (p : Page) → k < n
       → puts p (lines_text (nodes_lines nt et (up_from j (m - j)) (up_from k (n - k))))
       ≡ puts (puts (puts p (line_text (node_fields nt k))) (lines_text (map (edge_fields et) (up_from j (end - j))))) (lines_text (nodes_lines nt et (up_from end (m - end)) (up_from (k + 1) (n - (k + 1)))))
   unfolding lines_text
-  puts-turn p h =
+  puts_turn p h =
       let a : k + 1 ≡ suc k = add-one k in
       let run : List Line = map (edge_fields et) (up_from j (end - j)) in
       let rest : List Line = nodes_lines nt et (up_from end (m - end)) (up_from (suc k) (n - suc k)) in
@@ -160,6 +174,6 @@ module _ (nt et : List ℕ) (n m k j end : ℕ) (f : EdgesFit et n k (up_from j 
       ∙ ap (λ (l : List ℕ). puts (puts p (line_text (node_fields nt k))) l) (lines-append run rest)
       ∙ puts-append (puts p (line_text (node_fields nt k))) (lines_text run) (lines_text rest))
 
-pub puts-turn-end : (p : Page) (nt et js : List ℕ) (k n : ℕ) → n ≤ k → puts p (lines_text (nodes_lines nt et js (up_from k (n - k)))) ≡ p
+pub puts_turn_end : (p : Page) (nt et js : List ℕ) (k n : ℕ) → n ≤ k → puts p (lines_text (nodes_lines nt et js (up_from k (n - k)))) ≡ p
 unfolding lines_text nodes_lines
-puts-turn-end p nt et js k n h = rw (up-end k n h) (puts_none p)
+puts_turn_end p nt et js k n h = rw (up_end k n h) (puts_none p)

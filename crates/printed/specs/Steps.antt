@@ -1,7 +1,8 @@
 -- What the functions that print do on the way: the edges of one node in one go, and the end of a page.
-use Rattle.std.specs.Prelude.{cond, ℕ, suc, List, [], ◌∷◌, length, eqb, ltb}
+use Rattle.std.specs.Prelude.{cond, ℕ, suc, List, [], ◌∷◌, length, eqb, ltb, Ok, Err}
+use Rattle.thread.specs.Numbers.{zeros}
 use Rattle.bytes_out.specs.Page.{Page, cleared}
-use Rattle.printed.specs.declared.Printed.TheVariants as P
+use Rattle.printed.specs.declared.PrintError.TheVariants as P
 use Rattle.printed.specs.Graph.{from_of}
 use Rattle.printed.specs.Printed.{Print, print'}
 
@@ -13,4 +14,4 @@ run_length t k (j ∷ js) = cond (eqb (from_of t j) k) (suc (run_length t k js))
 -- a page that lost a byte is too small
 unfoldable pub finished : Page → Print
 unfolding cleared
-finished p = cond (ltb (length p.area) p.at) (print' P.TooSmall (cleared p.area 0)) (print' (P.Written p.at) (cleared p.area p.at))
+finished p = cond (ltb (length p.area) p.at) (print' (Err P.TooSmall) (zeros (length p.area))) (print' (Ok p.at) (cleared p.area p.at))

@@ -1,10 +1,9 @@
-// The printed form of a graph and of a refusal: definitions and laws, and how printing ends.
+// The printed form of a graph and of a refusal: definitions and laws, and why there is none.
 #![tactic(auto)]
 
-// the length of the text, or why there is none
-#[derive(Clone, Copy)]
-pub enum Printed {
-    Written(usize),
+// why there is no text
+#[derive(Clone, Copy, Debug, PartialEq, Eq)]
+pub enum PrintError {
     TooSmall,
     NotAGraph,
 }

@@ -7,7 +7,7 @@ ghost use Rattle.room.specs.Room.{made, Cleared};
 
 use builder::build;
 use graphs::Built;
-use thread::clear;
+use thread::{Refusal, clear};
 
 // the graph of a present thread; the room of another becomes zero
 pub fn build_present(
@@ -16,7 +16,7 @@ pub fn build_present(
     table: &[u32],
     nodes: &mut [u32],
     edges: &mut [u32],
-) -> Built
+) -> Result<Built, Refusal>
     ensures { Leaves (made present model table.now (length nodes.old) (length edges.old)) result nodes.new edges.new }
 {
     if present {
@@ -24,7 +24,7 @@ pub fn build_present(
     }
     clear(nodes);
     clear(edges);
-    Built::Graph(0, 0)
+    Ok(Built { nodes: 0, edges: 0 })
 }
 
 // "A refusal zeroes every table lent for writing"

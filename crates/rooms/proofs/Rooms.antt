@@ -1,10 +1,12 @@
 -- Four graphs, made in order up to the first that is refused: the refusal is that of the threads, and the rooms hold the graphs.
-use mathlib.Core.Path.{◌≡◌, refl, sym, ap, subst, ◌∙◌}
+use Rattle.std.specs.Prelude as code
+use Rattle.std.specs.Prelude.{Ok, Err}
+use mathlib.Core.Path.{◌≡◌, refl, sym, ap, ◌∙◌}
 use mathlib.Core.Bool.{Bool, true, false, cond, ◌||◌}
 use mathlib.Core.Option.{Option, none, some}
 use Prim.Native.Nat.{ℕ, zero, suc, ◌+◌, ◌*◌, ◌≤◌, ◌<◌}
 use native.Mathlib.Omega.{arith}
-use mathlib.Core.List.{List, [], map}
+use mathlib.Core.List.{List, []}
 use lib.ListN.{length, get_or, length-append, length-map}
 use lib.Dec.{ltb, eqb}
 use Rattle.lists.proofs.Tests.{lt-true, lt-false, false-lt}
@@ -12,29 +14,30 @@ use Rattle.thread.specs.declared.Refusal.{Refusal}
 use Rattle.thread.specs.declared.Refusal.TheVariants as R
 use Rattle.thread.specs.Numbers.{zeros, filled}
 use Rattle.runs.specs.Run.{Bad, bad_threads, first_bad, threads_refused}
-use Rattle.graphs.specs.declared.Built.{Built}
-use Rattle.graphs.specs.declared.Built.TheVariants as B
 use Rattle.graphs.specs.declared.Edge.{Edge}
 use Rattle.graphs.specs.Records.{numbered, edge_record, flat}
-use Rattle.graphs.specs.Build.{Result, edges_of_graph, refusal, refused, accepted, build, build_answer}
+use Rattle.graphs.specs.Build.{Answer, Result, edges_of_graph, refusal, refused, accepted, build, build_answer}
 use Rattle.graphs.proofs.Given.{accepted-when}
 use Rattle.graphs.proofs.Tables.{when-refused, when-accepted}
 use Rattle.graphs.proofs.Records.{flat-length, all_edges}
-use Rattle.room.specs.Room.{made, Cleared}
+use Rattle.room.specs.Room.{made}
 use Rattle.generated.specs.RunGenerated.{Rooms, node_room, edge_room}
-use Rattle.rooms.specs.declared.Making.{Making}
-use Rattle.rooms.specs.declared.Making.TheVariants as M
-use Rattle.rooms.specs.Graphs.{made_for, refused_by, edge_count, first_refused, MakesFour, refused_in, Makes}
+use Rattle.rooms.specs.Graphs.{edges_or, made_for, refused_by, edge_count, first_refused, refused_in}
 
-pub was-graph : (a x : Built) (n e : ℕ) → x ≡ a → x ≡ B.Graph n e → refused_by a ≡ none
-unfolding refused_by
-was-graph (B.Graph p q) x n e g h = refl
-was-graph (B.Refused r) x n e g h = let z : B.Refused r ≡ B.Graph n e = cc in cc
+-- what the edges of a graph, or its refusal, say of the builder's answer
+pub edges-ok : (t : ℕ) (a : Answer) (n : ℕ) → Ok n ≡ edges_or t a → (refused_by a ≡ none) × (n ≡ (build_answer a).edges)
+unfolding refused_by build_answer
+edges-ok t (Ok b) n e = (refl, cc)
+edges-ok t (Err r) n e = cc
 
-pub was-refused : (a x : Built) (r : Refusal) → x ≡ a → x ≡ B.Refused r → refused_by a ≡ some r
+abbrev bad_in : code.Result ℕ (ℕ × Refusal) → Option Bad
+bad_in (Ok n) = none
+bad_in (Err b) = some (record { thread = b.0; refusal = b.1 })
+
+pub edges-err : (t : ℕ) (a : Answer) (b : ℕ × Refusal) → Err b ≡ edges_or t a → (r : Refusal) × (refused_by a ≡ some r) × (some (record { thread = t; refusal = r }) ≡ bad_in (Err b))
 unfolding refused_by
-was-refused (B.Graph p q) x r g h = let z : B.Graph p q ≡ B.Refused r = cc in cc
-was-refused (B.Refused q) x r g h = let z : B.Refused q ≡ B.Refused r = cc in let e : q ≡ r = cc in ap some e
+edges-err t (Ok g) b e = cc
+edges-err t (Err r) b e = (r, refl, ap bad_in (sym e))
 
 -- Thread by thread.
 module _ (f : ℕ → Option Refusal) where
@@ -151,13 +154,3 @@ module _ (m count : ℕ) (tables : List (List ℕ)) (rooms : Rooms) where
   pub threads-first : bad_threads count ≡ false → refused_in m count tables rooms ≡ first_refused b
   unfolding threads_refused
   threads-first few = sym (first-is m count (λ t. get_or tables t []) (node_room rooms) (edge_room rooms) (few_threads count few) ∙ rw (few, threads_refused))
-
-  module _ (ns es : List (List ℕ)) (x : Making) (h : MakesFour m count tables rooms ns es x) where
-    pub fill_done : (c0 c1 c2 c3 : ℕ) → x ≡ M.Graphs c0 c1 c2 c3 → Makes m count tables rooms ns es x
-    fill_done c0 c1 c2 c3 e = subst (Makes m count tables rooms ns es) (sym e) (subst (MakesFour m count tables rooms ns es) e h)
-
-    pub fill-refused : (t : ℕ) (r : Refusal) → x ≡ M.Refused t r → map length ns ≡ rooms.nodes → map length es ≡ rooms.edges
-        → (ns' es' : List (List ℕ)) → Cleared ns es ns' es' → Makes m count tables rooms ns' es' x
-    fill-refused t r e p q ns' es' c =
-        let k = subst (MakesFour m count tables rooms ns es) e h in
-        subst (Makes m count tables rooms ns' es') (sym e) (record { refused = k; nodes = c.nodes ∙ ap (map zeros) p; edges = c.edges ∙ ap (map zeros) q })

@@ -1,51 +1,38 @@
 // The graphs of up to four threads in their lent rooms: built thread by thread up to the first that is refused, and zeroed at a refusal.
 #![tactic(auto)]
 
-ghost use Rattle.std.specs.Prelude.{◌≡◌, [], ◌∷◌};
-ghost use Rattle.graphs.specs.Build.{build_answer};
-ghost use Rattle.runs.specs.Run.{bad_threads};
-ghost use Rattle.rooms.specs.Graphs.{rooms_of, MakesFour, Makes};
+ghost use Rattle.std.specs.Prelude.{◌≡◌, ◌<◌, ltb, length, get_or, [], ◌∷◌};
+ghost use Rattle.lists.specs.Slices.{contents};
+ghost use Rattle.room.specs.Room.{made};
+ghost use Rattle.rooms.specs.Graphs.{edges_or, rooms_of, MakesFour, Makes};
 
-use graphs::Built;
+use runs::bad_threads;
 use thread::Refusal;
 
-// what came of the graphs: the first thread that was refused, or how many edges each has
-#[derive(Clone, Copy)]
-pub enum Making {
-    Refused(u32, Refusal),
-    Graphs(u32, u32, u32, u32),
-}
-
-// how many edges were built
-#[tactic(auto, unfolding(graphs::specs::Build::build_answer))]
-fn edges_in(built: Built) -> u32
-    ensures { result ≡ (build_answer built).edges }
+// how many edges the graph of thread `t` has, or `t` and why it is refused
+fn build_thread(
+    model: u32,
+    count: u32,
+    t: u32,
+    tables: &[&[u32]; 4],
+    nodes: &mut [u32],
+    edges: &mut [u32],
+) -> Result<u32, (u32, Refusal)>
+    requires { t < 4 }
+    ensures answer { result ≡ edges_or t (made (ltb t count) model (get_or (contents tables.now) t []) (length nodes.old) (length edges.old)).answer }
+    ensures nodes { nodes.new ≡ (made (ltb t count) model (get_or (contents tables.now) t []) (length nodes.old) (length edges.old)).nodes }
+    ensures edges { edges.new ≡ (made (ltb t count) model (get_or (contents tables.now) t []) (length nodes.old) (length edges.old)).edges }
 {
-    match built {
-        Built::Graph(_, edges) => edges,
-        Built::Refused(_) => 0,
-    }
-}
-
-// 14: "no thread, or more than 4"
-#[tactic(auto, unfolding(runs::specs::Run::bad_threads))]
-fn bad_threads(count: u32) -> bool
-    ensures { result ≡ bad_threads count }
-{
-    if count == 0 {
-        return true;
-    }
-    4 < count
+    room::build_present(t < count, model, tables[t as usize], nodes, edges)
+        .map(|built| built.edges)
+        .map_err(|refusal| (t, refusal))
 }
 
 // 14, then "2 to 13 for one thread, against that thread's lent room, before it looks at the next"
 fn build_four(
     model: u32,
     count: u32,
-    t0: &[u32],
-    t1: &[u32],
-    t2: &[u32],
-    t3: &[u32],
+    tables: &[&[u32]; 4],
     n0: &mut [u32],
     e0: &mut [u32],
     n1: &mut [u32],
@@ -54,39 +41,24 @@ fn build_four(
     e2: &mut [u32],
     n3: &mut [u32],
     e3: &mut [u32],
-) -> Making
-    ensures { MakesFour model count (t0.now ∷ t1.now ∷ t2.now ∷ t3.now ∷ []) (rooms_of (n0.old ∷ n1.old ∷ n2.old ∷ n3.old ∷ []) (e0.old ∷ e1.old ∷ e2.old ∷ e3.old ∷ [])) (n0.new ∷ n1.new ∷ n2.new ∷ n3.new ∷ []) (e0.new ∷ e1.new ∷ e2.new ∷ e3.new ∷ []) result }
+) -> Result<[u32; 4], (u32, Refusal)>
+    ensures { MakesFour model count (contents tables.now) (rooms_of (n0.old ∷ n1.old ∷ n2.old ∷ n3.old ∷ []) (e0.old ∷ e1.old ∷ e2.old ∷ e3.old ∷ [])) (n0.new ∷ n1.new ∷ n2.new ∷ n3.new ∷ []) (e0.new ∷ e1.new ∷ e2.new ∷ e3.new ∷ []) result }
 {
     if bad_threads(count) {
-        return Making::Refused(0, Refusal::BadThreads);
+        return Err((0, Refusal::BadThreads));
     }
-    let a = room::build_present(0 < count, model, t0, n0, e0);
-    if let Built::Refused(refusal) = a {
-        return Making::Refused(0, refusal);
-    }
-    let b = room::build_present(1 < count, model, t1, n1, e1);
-    if let Built::Refused(refusal) = b {
-        return Making::Refused(1, refusal);
-    }
-    let c = room::build_present(2 < count, model, t2, n2, e2);
-    if let Built::Refused(refusal) = c {
-        return Making::Refused(2, refusal);
-    }
-    let d = room::build_present(3 < count, model, t3, n3, e3);
-    if let Built::Refused(refusal) = d {
-        return Making::Refused(3, refusal);
-    }
-    Making::Graphs(edges_in(a), edges_in(b), edges_in(c), edges_in(d))
+    let a = build_thread(model, count, 0, tables, n0, e0)?;
+    let b = build_thread(model, count, 1, tables, n1, e1)?;
+    let c = build_thread(model, count, 2, tables, n2, e2)?;
+    let d = build_thread(model, count, 3, tables, n3, e3)?;
+    Ok([a, b, c, d])
 }
 
 // the graphs of the first `count` threads in their rooms, or 14 or 2 to 13 with all rooms zero
 pub fn fill(
     model: u32,
     count: u32,
-    t0: &[u32],
-    t1: &[u32],
-    t2: &[u32],
-    t3: &[u32],
+    tables: &[&[u32]; 4],
     n0: &mut [u32],
     e0: &mut [u32],
     n1: &mut [u32],
@@ -95,13 +67,12 @@ pub fn fill(
     e2: &mut [u32],
     n3: &mut [u32],
     e3: &mut [u32],
-) -> Making
-    ensures { Makes model count (t0.now ∷ t1.now ∷ t2.now ∷ t3.now ∷ []) (rooms_of (n0.old ∷ n1.old ∷ n2.old ∷ n3.old ∷ []) (e0.old ∷ e1.old ∷ e2.old ∷ e3.old ∷ [])) (n0.new ∷ n1.new ∷ n2.new ∷ n3.new ∷ []) (e0.new ∷ e1.new ∷ e2.new ∷ e3.new ∷ []) result }
+) -> Result<[u32; 4], (u32, Refusal)>
+    ensures { Makes model count (contents tables.now) (rooms_of (n0.old ∷ n1.old ∷ n2.old ∷ n3.old ∷ []) (e0.old ∷ e1.old ∷ e2.old ∷ e3.old ∷ [])) (n0.new ∷ n1.new ∷ n2.new ∷ n3.new ∷ []) (e0.new ∷ e1.new ∷ e2.new ∷ e3.new ∷ []) result }
 {
-    let making = build_four(model, count, t0, t1, t2, t3, n0, e0, n1, e1, n2, e2, n3, e3);
-    if let Making::Graphs(_, _, _, _) = making {
-        return making;
+    let making = build_four(model, count, tables, n0, e0, n1, e1, n2, e2, n3, e3);
+    if making.is_err() {
+        room::clear_all(n0, e0, n1, e1, n2, e2, n3, e3);
     }
-    room::clear_all(n0, e0, n1, e1, n2, e2, n3, e3);
     making
 }

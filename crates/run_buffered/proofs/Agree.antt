@@ -1,4 +1,5 @@
 -- The run over threads as the code holds them is the run of buffered threads, and shows the same.
+use Rattle.std.specs.Prelude.{Err}
 use mathlib.Core.Path.{◌≡◌, refl, sym, ap, ◌∙◌}
 use mathlib.Core.Option
 use mathlib.Core.Option.{Option, none, some}
@@ -21,7 +22,7 @@ use Rattle.checks.proofs.Loops.{leads-inside}
 use Rattle.checks.proofs.Given.{Admitted, admitted}
 use Rattle.runs.specs.Run.{In, Stand, items, run, Bad, threads_refused, end_of}
 use Rattle.runs.specs.Start.{Start, table_of, registers_of, start_world}
-use Rattle.runs.specs.declared.Ended.TheVariants as E
+use Rattle.runs.specs.declared.Unfinished.TheVariants as U
 use Rattle.runs.specs.Shown.{name_of, value_of, nobody, shown_thread, shown_state, zero_state}
 use Rattle.runs.proofs.Worlds.{within, Each, view_world, view_stand, same_runs}
 use Rattle.buffered.specs.Machine.{var_of, Buffered, buffered_step, Comes, comes_start, comes_step}
@@ -36,7 +37,7 @@ use Rattle.buffer.specs.Step.{stepped}
 use Rattle.buffer.proofs.Steps.{moved_of, step_is}
 use Rattle.shown.specs.Ran.{start_of, thread_state, nobody_state, world, ran_of}
 use Rattle.run_buffered.specs.Ran.{buffered_ran}
-use Rattle.run_buffered.specs.Cores.{start_cores, taken, core_step, reached, ran_stand}
+use Rattle.run_buffered.specs.Cores.{start_cores, after, core_step, reached, ran_stand}
 use Rattle.run_buffered.proofs.Starts.{begin-cores}
 
 -- One thread that is free of 2 to 10: the code's step is the buffered step.
@@ -53,17 +54,17 @@ module _ (m : ℕ) (t : List ℕ) (free : admission m t ≡ none) (model : Model
       let e : q.state.standing.line.0 ≡ b.line.0 = ap (λ (x : Buffered). x.line.0) q.shown in
       omega (arith, ok.few_lines, leads-inside (follows prog) (lines_of t) ok.stays ok.some_lines q.good.reached)
 
-  taken-moved : (M : List ℕ) (b : Buffered) (o : Option (In Buffered)) → taken (moved_of M b o) ≡ Option.map (within core_of) o
-  unfolding taken moved_of
-  taken-moved M b none = refl
-  taken-moved M b (some s) = refl
+  after-moved : (o : Option (In Buffered)) → Option.map after (moved_of o) ≡ Option.map (within core_of) o
+  unfolding moved_of
+  after-moved none = refl
+  after-moved (some s) = refl
 
   same-core : (c : ℕ) (M : List ℕ) (b : Buffered) → Comes model prog b
-      → Option.map (within core_of) (buffered_step model prog c (record { memory = M; own = b })) ≡ taken (stepped model (prog b.line) c M (core_of b))
+      → Option.map (within core_of) (buffered_step model prog c (record { memory = M; own = b })) ≡ Option.map after (stepped model (prog b.line) c M (core_of b))
   same-core c M b r =
-      sym (taken-moved M b (buffered_step model prog c (record { memory = M; own = b })))
-      ∙ ap (λ (o : Option (In Buffered)). taken (moved_of M b o)) (sym (never-differs m t free model M c r))
-      ∙ ap taken (sym (step_is model M b (never-more m t free model r) (line-short r) prog c))
+      sym (after-moved (buffered_step model prog c (record { memory = M; own = b })))
+      ∙ ap (λ (o : Option (In Buffered)). Option.map after (moved_of o)) (sym (never-differs m t free model M c r))
+      ∙ ap (Option.map after) (sym (step_is model M b (never-more m t free model r) (line-short r) prog c))
 
 -- All threads.
 module _ (s : Start) (free : (t : ℕ) → t < s.count → admission s.model (table_of s t) ≡ none) where
@@ -137,7 +138,7 @@ module _ (m : ℕ) (tables : List (List ℕ)) (M all sched : List ℕ) (count : 
   refusals = threads_refused (λ t. admission m (get_or tables t [])) count
 
   -- 14, or 2 to 10
-  pub ran-refused : (t : ℕ) (r : Refusal) → refusals ≡ some (record { thread = t; refusal = r }) → ran_of (E.Refused t r) zero_state ≡ buffered_ran (run_buffered start)
+  pub ran-refused : (t : ℕ) (r : Refusal) → refusals ≡ some (record { thread = t; refusal = r }) → ran_of (Err (U.Refused t r)) zero_state ≡ buffered_ran (run_buffered start)
   unfolding run_buffered
   ran-refused t r e = rw (e, run_buffered)
 

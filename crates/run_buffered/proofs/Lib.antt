@@ -1,4 +1,5 @@
-pub mod Flat
+pub mod InPlace
 pub mod Starts
 pub mod Turns
 pub mod Agree
+pub mod Refused

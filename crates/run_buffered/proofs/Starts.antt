@@ -6,16 +6,11 @@ use native.Mathlib.Omega.{arith}
 use mathlib.Core.List.{List}
 use lib.ListN.{take}
 use Rattle.lists.specs.Lists.{each, listed, collect}
-use Rattle.thread.specs.Numbers.{zeros, filled}
+use Rattle.thread.specs.Numbers.{filled}
 use Rattle.buffered.specs.RunBuffered.{start_thread}
 use Rattle.buffer.specs.States.{core_of}
 use Rattle.shown.specs.Ran.{start_of}
 use Rattle.run_buffered.specs.Cores.{start_cores}
-use Rattle.run_buffered.specs.Flat.{flat, threads_in}
-
--- in flat lists: nothing waits, and the registers are those given
-pub begin-flat : (all : List ℕ) → threads_in (flat (zeros 4) (zeros 4) all (zeros 64) (zeros 64)) ≡ start_cores all
-begin-flat all = refl
 
 module _ (all : List ℕ) (m : ℕ) (tables : List (List ℕ)) (M sched : List ℕ) where
   pub begin-cores : (count : ℕ) → count ≤ 4 → take count (start_cores all) ≡ each (λ t b. core_of b) (collect (λ t. some (start_thread (start_of m count tables M all sched) t)) 0 count)

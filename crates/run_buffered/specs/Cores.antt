@@ -1,12 +1,11 @@
 -- The run over threads as the code holds them.
-use Rattle.std.specs.Prelude.{cond, ℕ, ◌-◌, List, [], ◌∷◌, ◌++◌, length, get_or, replicate}
-use Rattle.std.proofs.Math.Option.{Option, none, some}
+use Rattle.std.specs.Prelude.{ℕ, ◌-◌, List, [], ◌∷◌, ◌++◌, length, get_or, replicate}
+use Rattle.std.proofs.Math.Option.{Option, map}
 use Rattle.thread.specs.declared.Model.{Model}
 use Rattle.thread.specs.Sizes.{most_waiting, most_threads}
 use Rattle.thread.specs.Numbers.{zeros}
 use Rattle.thread.specs.Table.{line, instr_at}
-use Rattle.runs.specs.declared.Ended.{Ended}
-use Rattle.runs.specs.Run.{In, Stand, end_of}
+use Rattle.runs.specs.Run.{Ended, In, Stand, end_of}
 use Rattle.shown.specs.declared.ThreadState.{ThreadState}
 use Rattle.buffer.specs.declared.Moved.{Moved}
 use Rattle.buffer.specs.Step.{stepped}
@@ -21,14 +20,14 @@ empty_core regs = record { line = line 0; registers = regs; names = zeros most_w
 abbrev pub start_cores : List ℕ → List ThreadState
 start_cores all = empty_core (cut all 0) ∷ empty_core (cut all 1) ∷ empty_core (cut all 2) ∷ empty_core (cut all 3) ∷ []
 
--- a step in code, if there was one
-unfoldable pub taken : Moved → Option (In ThreadState)
-taken m = cond m.ok (some (record { memory = m.memory; own = m.core })) none
+-- what a step in code leaves
+abbrev pub after : Moved → In ThreadState
+after m = record { memory = m.memory; own = m.core }
 
 -- thread t, with its own table, takes choice c
 unfoldable pub core_step : Model → List (List ℕ) → ℕ → ℕ → In ThreadState → Option (In ThreadState)
-unfolding stepped taken instr_at
-core_step m tables t c s = taken (stepped m (instr_at (get_or tables t []) s.own.line) c s.memory s.own)
+unfolding stepped instr_at
+core_step m tables t c s = map after (stepped m (instr_at (get_or tables t []) s.own.line) c s.memory s.own)
 
 -- a run's end with the threads that are there
 abbrev pub ran_of_present : Ended → List ℕ → List ThreadState → Ran

@@ -1,31 +1,18 @@
 -- The threads in flat lists: lines and counts by thread, and 16 registers, names and values for each.
-use Rattle.std.specs.Prelude.{◌≡◌, Bool, ℕ, List, [], ◌∷◌, length, set}
+use Rattle.std.specs.Prelude.{Bool, ℕ, List, [], ◌∷◌, set}
+use Rattle.std.proofs.Math.Option.{map}
 use Rattle.thread.specs.declared.Model.{Model}
 use Rattle.thread.specs.declared.Instr.{Instr}
 use Rattle.thread.specs.Numbers.{◌!◌}
 use Rattle.thread.specs.Table.{line}
+use Rattle.runs.specs.Run.{World}
+use Rattle.runs.specs.Machine.{Turned}
 use Rattle.shown.specs.declared.ThreadState.{ThreadState}
 use Rattle.shown.specs.Ran.{cut}
 use Rattle.chosen.specs.Decide.{thread_of}
+use Rattle.buffer.specs.declared.Moved.{Moved}
 use Rattle.buffer.specs.Step.{stepped}
-
-pub record Flat : Type 0 where
-  pub lines : List ℕ
-  pub counts : List ℕ
-  pub registers : List ℕ
-  pub names : List ℕ
-  pub values : List ℕ
-
-abbrev pub flat : List ℕ → List ℕ → List ℕ → List ℕ → List ℕ → Flat
-flat ls ns regs names values = record { lines = ls; counts = ns; registers = regs; names = names; values = values }
-
--- four threads
-pub record Sized (f : Flat) : Type 0 where
-  pub lines : length f.lines ≡ 4
-  pub counts : length f.counts ≡ 4
-  pub registers : length f.registers ≡ 64
-  pub names : length f.names ≡ 64
-  pub values : length f.values ≡ 64
+use Rattle.run_buffered.specs.declared.Flat.{Flat}
 
 -- thread t
 abbrev pub thread_in : Flat → ℕ → ThreadState
@@ -35,8 +22,14 @@ thread_in f t = thread_of (line (f.lines ! t)) (f.counts ! t) (cut f.registers t
 abbrev pub threads_in : Flat → List ThreadState
 threads_in f = thread_in f 0 ∷ thread_in f 1 ∷ thread_in f 2 ∷ thread_in f 3 ∷ []
 
--- a turn in place is the step of thread t: what is answered, memory, and the threads, of which all but t are as before
-pub record TurnIs (m : Model) (i : Instr) (t choice : ℕ) (M : List ℕ) (f : Flat) (ok : Bool) (M' : List ℕ) (f' : Flat) : Type 0 where
-  pub answer : ok ≡ (stepped m i choice M (thread_in f t)).ok
-  pub memory : M' ≡ (stepped m i choice M (thread_in f t)).memory
-  pub threads : threads_in f' ≡ set (threads_in f) t (stepped m i choice M (thread_in f t)).core
+-- all four over memory
+abbrev pub all_in : Flat → World ThreadState
+all_in f = record { memory = f.memory; threads = threads_in f }
+
+-- the same after a step of thread t
+abbrev pub after_step : Flat → ℕ → Moved → World ThreadState
+after_step f t m = record { memory = m.memory; threads = set (threads_in f) t m.core }
+
+-- a turn in place is the step of thread t, if it has one: what is answered, memory, and the threads, of which all but t are as before
+abbrev pub TurnIs : Model → Instr → ℕ → ℕ → Flat → Bool → Flat → Type 0
+TurnIs m i t choice f ok f' = Turned (map (after_step f t) (stepped m i choice f.memory (thread_in f t))) (all_in f) ok (all_in f')

@@ -1,195 +1,152 @@
-// The run of buffered threads: its refusals, then the schedule's items, one step each in flat lists: thread t's line and count at place t,
-// its registers, names and values at places 16 t to 16 t + 15.
+// The run of buffered threads: its refusals, then the schedule's items, one step each in flat lists.
 #![tactic(auto)]
 
-ghost use Rattle.std.specs.Prelude.{◌≡◌, cond, [], ◌∷◌, ◌++◌, ◌-◌, ◌<◌, ◌≤◌, get_or, take, replicate, ltb};
-ghost use Rattle.thread.specs.Table.{instr_at};
+ghost use Rattle.std.specs.Prelude.{◌≡◌, cond, [], ◌∷◌, ◌++◌, ◌-◌, ◌<◌, take, replicate, ltb};
+ghost use Rattle.lists.specs.Slices.{contents};
 ghost use Rattle.runs.specs.Run.{items, run};
 ghost use Rattle.buffered.specs.RunBuffered.{run_buffered};
-ghost use Rattle.run_buffered.specs.Cores.{start_cores, core_step, ran_of_present, reached, ran_stand};
 ghost use Rattle.shown.specs.Ran.{start_of, nobody_state, world};
-ghost use Rattle.run_buffered.specs.Flat.{flat, thread_in, threads_in, Sized, TurnIs};
+ghost use Rattle.run_buffered.specs.Cores.{start_cores, core_step, ran_stand};
+ghost use Rattle.run_buffered.specs.Flat.{thread_in, threads_in, all_in, TurnIs};
 ghost use Rattle.run_buffered.specs.Ran.{buffered_ran};
 
 use admit::model_of;
-use judge::Judged;
-use runs::Ended;
-use shown::{Ran, ThreadState, nobody, refused};
-use thread::{Instr, Line, Model};
+use judge::judge;
+use runs::Turns;
+use shown::{Ran, ThreadState, nobody, part, refused};
+use thread::{Instr, Line, Model, instr_at};
 
-// the instruction at a line of thread `t`
-fn instr_in(t0: &[u32], t1: &[u32], t2: &[u32], t3: &[u32], t: u32, line: Line) -> Instr
-    requires { t < 4 }
-    ensures { result ≡ instr_at (get_or (t0.now ∷ t1.now ∷ t2.now ∷ t3.now ∷ []) t []) line }
-{
-    match t {
-        0 => thread::instr_at(t0, line),
-        1 => thread::instr_at(t1, line),
-        2 => thread::instr_at(t2, line),
-        _ => thread::instr_at(t3, line),
+// memory, and four threads in flat lists: thread t's line and count at place t, its registers, names and values at places 16 t to 16 t + 15
+#[derive(Clone, Copy)]
+struct Flat {
+    memory: [u32; 16],
+    lines: [u32; 4],
+    counts: [u32; 4],
+    registers: [u32; 64],
+    names: [u32; 64],
+    values: [u32; 64],
+}
+
+impl Flat {
+    // each at line 0, and nothing waits
+    fn start(memory: [u32; 16], registers: [u32; 64]) -> Self
+        ensures { all_in result ≡ record { memory = memory; threads = start_cores registers } }
+    {
+        Flat {
+            memory,
+            lines: [0u32; 4],
+            counts: [0u32; 4],
+            registers,
+            names: [0u32; 64],
+            values: [0u32; 64],
+        }
     }
-}
 
-// thread `t` takes a choice; `false`: it has no such step, and all is as before
-fn turn(
-    model: Model,
-    instr: Instr,
-    t: usize,
-    choice: u32,
-    memory: &mut [u32],
-    lines: &mut [u32],
-    counts: &mut [u32],
-    regs: &mut [u32],
-    names: &mut [u32],
-    values: &mut [u32],
-) -> bool
-    requires { (t < 4) × Sized (flat lines.old counts.old regs.old names.old values.old) }
-    ensures { TurnIs model instr t choice memory.old (flat lines.old counts.old regs.old names.old values.old) result memory.new (flat lines.new counts.new regs.new names.new values.new) }
-{
-    let a = 16 * t;
-    let e = a + 16;
-    let next = buffer::turn(
-        model,
-        instr,
-        choice,
-        Line(lines[t]),
-        counts[t],
-        memory,
-        &mut regs[a..e],
-        &mut names[a..e],
-        &mut values[a..e],
-    );
-    let line = next.line;
-    lines[t] = line.0;
-    counts[t] = next.count;
-    next.ok
-}
+    // thread `t` takes a choice; `false`: it has no such step, and all is as before
+    fn turn(&mut self, model: Model, instr: Instr, t: usize, choice: u32) -> bool
+        requires { t < 4 }
+        ensures { TurnIs model instr t choice self.old result self.new }
+    {
+        let a = 16 * t;
+        let e = a + 16;
+        let Some(next) = buffer::turn(
+            model,
+            instr,
+            choice,
+            Line(self.lines[t]),
+            self.counts[t],
+            &mut self.memory,
+            &mut self.registers[a..e],
+            &mut self.names[a..e],
+            &mut self.values[a..e],
+        ) else {
+            return false;
+        };
+        self.lines[t] = next.line.0;
+        self.counts[t] = next.count;
+        true
+    }
 
-// the items in order, up to the first that names no step
-#[tactic(auto, unfolding(runs::specs::Run::end_of, crate::specs::Cores::reached))]
-fn steps(
-    model: Model,
-    threads: u32,
-    t0: &[u32],
-    t1: &[u32],
-    t2: &[u32],
-    t3: &[u32],
-    schedule: &[u32],
-    memory: &mut [u32],
-    lines: &mut [u32],
-    counts: &mut [u32],
-    regs: &mut [u32],
-    names: &mut [u32],
-    values: &mut [u32],
-) -> Ended
-    requires { (threads ≤ 4) × Sized (flat lines.old counts.old regs.old names.old values.old) }
-    ensures { ran_of_present result memory.new (take threads (threads_in (flat lines.new counts.new regs.new names.new values.new))) ≡ reached (run (core_step model (t0.now ∷ t1.now ∷ t2.now ∷ t3.now ∷ [])) (items schedule.now) 0 (world threads memory.old (threads_in (flat lines.old counts.old regs.old names.old values.old)))) }
-{
-    let mut at: usize = 0;
-    let mut done: u64 = 0;
-    while at + 1 < schedule.len() {
-        let t = schedule[at];
-        let c = schedule[at + 1];
+    // thread `t` as it is shown; one that is not there is all 0
+    fn show_thread(&self, threads: u32, t: u32) -> ThreadState
+        requires { t < 4 }
+        ensures { result ≡ cond (ltb t threads) (thread_in self.now t) nobody_state }
+    {
         if threads <= t {
-            return Ended::Stopped(done);
+            return nobody();
         }
         let own = t as usize;
-        let i = instr_in(t0, t1, t2, t3, t, Line(lines[own]));
-        if !turn(model, i, own, c, memory, lines, counts, regs, names, values) {
-            return Ended::Stopped(done);
+        ThreadState {
+            line: Line(self.lines[own]),
+            registers: part(&self.registers, t),
+            names: part(&self.names, t),
+            values: part(&self.values, t),
+            count: self.counts[own],
         }
-        at += 2;
-        done += 1;
     }
-    if at < schedule.len() {
-        return Ended::Stopped(done);
-    }
-    Ended::Done(done)
-}
 
-// thread `t` as it is shown; one that is not there is all 0
-fn show_thread(
-    threads: u32,
-    t: u32,
-    lines: &[u32],
-    counts: &[u32],
-    registers: &[u32],
-    names: &[u32],
-    values: &[u32],
-) -> ThreadState
-    requires { (t < 4) × Sized (flat lines.now counts.now registers.now names.now values.now) }
-    ensures { result ≡ cond (ltb t threads) (thread_in (flat lines.now counts.now registers.now names.now values.now) t) nobody_state }
-{
-    if threads <= t {
-        return nobody();
-    }
-    let own = t as usize;
-    ThreadState {
-        line: Line(lines[own]),
-        registers: shown::part(registers, t),
-        names: shown::part(names, t),
-        values: shown::part(values, t),
-        count: counts[own],
+    // all four
+    fn show(&self, threads: u32) -> [ThreadState; 4]
+        ensures { result ≡ take threads (threads_in self.now) ++ replicate (4 - threads) nobody_state }
+    {
+        [
+            self.show_thread(threads, 0),
+            self.show_thread(threads, 1),
+            self.show_thread(threads, 2),
+            self.show_thread(threads, 3),
+        ]
     }
 }
 
-// all four
-fn show_threads(
+// what a schedule moves, with each thread's table
+#[derive(Clone, Copy)]
+struct Machine<'a> {
+    model: Model,
     threads: u32,
-    lines: &[u32],
-    counts: &[u32],
-    registers: &[u32],
-    names: &[u32],
-    values: &[u32],
-) -> [ThreadState; 4]
-    requires { (threads ≤ 4) × Sized (flat lines.now counts.now registers.now names.now values.now) }
-    ensures { result ≡ take threads (threads_in (flat lines.now counts.now registers.now names.now values.now)) ++ replicate (4 - threads) nobody_state }
-{
-    let first = show_thread(threads, 0, lines, counts, registers, names, values);
-    let second = show_thread(threads, 1, lines, counts, registers, names, values);
-    let third = show_thread(threads, 2, lines, counts, registers, names, values);
-    let fourth = show_thread(threads, 3, lines, counts, registers, names, values);
-    [first, second, third, fourth]
+    tables: [&'a [u32]; 4],
+    flat: Flat,
+}
+
+impl Turns for Machine<'_> {
+    type Own = ThreadState;
+
+    ghost step = { λ m. core_step m.model (contents m.tables) };
+
+    ghost world = { λ m. world m.threads m.flat.memory (threads_in m.flat) };
+
+    fn turn(&mut self, t: u32, choice: u32) -> bool {
+        let own = t as usize;
+        if self.threads <= t || 4 <= own {
+            return false;
+        }
+        let model = self.model;
+        let instr = instr_at(self.tables[own], Line(self.flat.lines[own]));
+        self.flat.turn(model, instr, own, choice)
+    }
 }
 
 // the run where no thread is refused
 fn run_fine(
     model: Model,
     threads: u32,
-    t0: &[u32],
-    t1: &[u32],
-    t2: &[u32],
-    t3: &[u32],
-    mut memory: [u32; 16],
-    mut registers: [u32; 64],
+    tables: &[&[u32]; 4],
+    memory: [u32; 16],
+    registers: [u32; 64],
     schedule: &[u32],
 ) -> Ran
-    requires { threads ≤ 4 }
-    ensures { result ≡ ran_stand (run (core_step model (t0.now ∷ t1.now ∷ t2.now ∷ t3.now ∷ [])) (items schedule.now) 0 (world threads memory (start_cores registers))) }
+    ensures { result ≡ ran_stand (run (core_step model (contents tables.now)) (items schedule.now) 0 (world threads memory (start_cores registers))) }
 {
-    let mut lines = [0u32; 4];
-    let mut counts = [0u32; 4];
-    let mut names = [0u32; 64];
-    let mut values = [0u32; 64];
-    let ended = steps(
+    let mut machine = Machine {
         model,
         threads,
-        t0,
-        t1,
-        t2,
-        t3,
-        schedule,
-        &mut memory,
-        &mut lines,
-        &mut counts,
-        &mut registers,
-        &mut names,
-        &mut values,
-    );
+        tables: *tables,
+        flat: Flat::start(memory, registers),
+    };
+    let ended = runs::carry_out(&mut machine, schedule);
     Ran {
         ended,
-        memory,
-        threads: show_threads(threads, &lines, &counts, &registers, &names, &values),
+        memory: machine.flat.memory,
+        threads: machine.flat.show(machine.threads),
     }
 }
 
@@ -197,22 +154,22 @@ fn run_fine(
 pub fn run_buffered(
     model: u32,
     threads: u32,
-    t0: &[u32],
-    t1: &[u32],
-    t2: &[u32],
-    t3: &[u32],
+    tables: &[&[u32]; 4],
     memory: [u32; 16],
     registers: [u32; 64],
     schedule: &[u32],
 ) -> Ran
-    ensures { result ≡ buffered_ran (run_buffered (start_of model threads (t0.now ∷ t1.now ∷ t2.now ∷ t3.now ∷ []) memory registers schedule.now)) }
+    ensures { result ≡ buffered_ran (run_buffered (start_of model threads (contents tables.now) memory registers schedule.now)) }
 {
-    let judged = judge::judge(model, threads, t0, t1, t2, t3);
-    match judged {
-        Judged::Bad(t, refusal) => refused(t, refusal),
-        Judged::Fine => {
-            let rule = model_of(model);
-            run_fine(rule, threads, t0, t1, t2, t3, memory, registers, schedule)
-        }
+    match judge(model, threads, tables) {
+        Err((t, refusal)) => refused(t, refusal),
+        Ok(()) => run_fine(
+            model_of(model),
+            threads,
+            tables,
+            memory,
+            registers,
+            schedule,
+        ),
     }
 }

@@ -3,9 +3,8 @@
 
 use run_buffered::run_buffered;
 use run_generated::run_generated;
-use runs::Ended;
+use runs::{Ended, Unfinished};
 use std::io;
-use thread::{number_of, place_of};
 
 fn field(rt: &impl Print, n: u64) -> io::Result<()> {
     print!(rt; "{n}\t")
@@ -13,19 +12,19 @@ fn field(rt: &impl Print, n: u64) -> io::Result<()> {
 
 fn answer(rt: &impl Print, ended: Ended) -> io::Result<()> {
     match ended {
-        Ended::Done(steps) => {
+        Ok(steps) => {
             field(rt, 0)?;
             field(rt, 0)?;
             field(rt, 0)?;
             field(rt, steps)?;
         }
-        Ended::Refused(thread, refusal) => {
-            field(rt, number_of(refusal))?;
-            field(rt, place_of(refusal))?;
+        Err(Unfinished::Refused(thread, refusal)) => {
+            field(rt, refusal.number())?;
+            field(rt, refusal.place())?;
             field(rt, thread as u64)?;
             field(rt, 0)?;
         }
-        Ended::Stopped(item) => {
+        Err(Unfinished::Stopped(item)) => {
             field(rt, 15)?;
             field(rt, item)?;
             field(rt, 0)?;
@@ -57,7 +56,14 @@ fn buffered(
     t1: &[u32],
     schedule: &[u32],
 ) -> io::Result<()> {
-    let r = run_buffered(model, 2, t0, t1, t1, t1, [0u32; 16], [0u32; 64], schedule);
+    let r = run_buffered(
+        model,
+        2,
+        &[t0, t1, t1, t1],
+        [0u32; 16],
+        [0u32; 64],
+        schedule,
+    );
     let ended = r.ended;
     let memory = r.memory;
     let a = r.threads[0];
@@ -84,8 +90,20 @@ fn generated(
     let mut n3 = [9u32; 20];
     let mut e3 = [9u32; 20];
     let r = run_generated(
-        model, 2, t0, t1, t1, t1, &mut n0, &mut e0, &mut n1, &mut e1, &mut n2, &mut e2, &mut n3,
-        &mut e3, [0u32; 16], [0u32; 64], schedule,
+        model,
+        2,
+        &[t0, t1, t1, t1],
+        &mut n0,
+        &mut e0,
+        &mut n1,
+        &mut e1,
+        &mut n2,
+        &mut e2,
+        &mut n3,
+        &mut e3,
+        [0u32; 16],
+        [0u32; 64],
+        schedule,
     );
     let ended = r.ended;
     let memory = r.memory;

@@ -1,4 +1,5 @@
 -- The whole run: what is answered, shown and left in the rooms is what the definition says.
+use Rattle.std.specs.Prelude.{Err}
 use mathlib.Core.Path.{◌≡◌, refl, sym, ap, subst, ◌∙◌}
 use mathlib.Core.Bool.{Bool, true, false, cond}
 use mathlib.Core.Option
@@ -17,7 +18,7 @@ use Rattle.thread.specs.declared.Refusal.TheVariants as R
 use Rattle.thread.specs.Numbers.{zeros}
 use Rattle.runs.specs.Run.{In, World, Stand, Item, Bad, items, run, bad_threads, threads_refused, end_of}
 use Rattle.runs.specs.Start.{Start, start_world}
-use Rattle.runs.specs.declared.Ended.TheVariants as E
+use Rattle.runs.specs.declared.Unfinished.TheVariants as U
 use Rattle.runs.specs.Shown.{shown_state, zero_state}
 use Rattle.runs.proofs.Worlds.{within, Each, view_stand, view_world, same_runs}
 use Rattle.graphs.specs.Build.{Result, build}
@@ -49,7 +50,7 @@ module _ (table : List ℕ) (sorted : Sorted table) where
   unfolding searched taken moved_of
   same-search c s = ap taken (steps-sought table c s.memory s.own sorted) ∙ go (generated_step table c s)
     where
-      go : (o : Option (In Generated)) → taken (moved_of o s.memory s.own) ≡ o
+      go : (o : Option (In Generated)) → taken (moved_of o) ≡ o
       go none = refl
       go (some x) = refl
 
@@ -126,7 +127,7 @@ module _ (m count : ℕ) (tables : List (List ℕ)) (n0 n1 n2 n3 e0 e1 e2 e3 M a
   refused-is = refl
 
   -- a refusal
-  pub ran-refused : (t : ℕ) (r : Refusal) (ns' es' : List (List ℕ)) → Refuses m count tables rooms ns' es' t r → (x : Ran) → x ≡ ran_of (E.Refused t r) zero_state → Runs result ns' es' x
+  pub ran-refused : (t : ℕ) (r : Refusal) (ns' es' : List (List ℕ)) → Refuses m count tables rooms ns' es' t r → (x : Ran) → x ≡ ran_of (Err (U.Refused t r)) zero_state → Runs result ns' es' x
   unfolding run_generated rooms_after collect listed
   ran-refused t r ns' es' h x e =
       let f : threads_refused (thread_refusal start rooms) count ≡ some (record { thread = t; refusal = r }) = sym refused-is ∙ h.refused in
@@ -239,45 +240,45 @@ module _ (m count : ℕ) (tables : List (List ℕ)) (n0 n1 n2 n3 e0 e1 e2 e3 M a
         whole x (subst (λ (s : Stand Generated). Goes count (λ t. get_or (four (λ t. (b t).nodes)) t []) s x) same-stands j)
 
 -- The first so many records of each table are those built.
-module _ (b : ℕ → Result) (e0 e1 e2 e3 : List ℕ) (c0 c1 c2 c3 : ℕ) (p : e0 ∷ e1 ∷ e2 ∷ e3 ∷ [] ≡ four (λ t. (b t).edges)) (q : c0 ∷ c1 ∷ c2 ∷ c3 ∷ [] ≡ four (λ t. edge_count (b t))) where
-  pub cut-tables : first_edges c0 e0 ∷ first_edges c1 e1 ∷ first_edges c2 e2 ∷ first_edges c3 e3 ∷ [] ≡ four (λ t. edge_table (b t))
+module _ (b : ℕ → Result) (e0 e1 e2 e3 : List ℕ) (cs : List ℕ) (p : e0 ∷ e1 ∷ e2 ∷ e3 ∷ [] ≡ four (λ t. (b t).edges)) (q : cs ≡ four (λ t. edge_count (b t))) where
+  pub cut-tables : first_edges (get_or cs 0 0) e0 ∷ first_edges (get_or cs 1 0) e1 ∷ first_edges (get_or cs 2 0) e2 ∷ first_edges (get_or cs 3 0) e3 ∷ [] ≡ four (λ t. edge_table (b t))
   unfolding edge_table
   cut-tables =
       let p0 : e0 ≡ (b 0).edges = cc in
       let p1 : e1 ≡ (b 1).edges = cc in
       let p2 : e2 ≡ (b 2).edges = cc in
       let p3 : e3 ≡ (b 3).edges = cc in
-      let q0 : c0 ≡ edge_count (b 0) = cc in
-      let q1 : c1 ≡ edge_count (b 1) = cc in
-      let q2 : c2 ≡ edge_count (b 2) = cc in
-      let q3 : c3 ≡ edge_count (b 3) = cc in
+      let q0 : get_or cs 0 0 ≡ edge_count (b 0) = ap (λ (l : List ℕ). get_or l 0 0) q in
+      let q1 : get_or cs 1 0 ≡ edge_count (b 1) = ap (λ (l : List ℕ). get_or l 1 0) q in
+      let q2 : get_or cs 2 0 ≡ edge_count (b 2) = ap (λ (l : List ℕ). get_or l 2 0) q in
+      let q3 : get_or cs 3 0 ≡ edge_count (b 3) = ap (λ (l : List ℕ). get_or l 3 0) q in
       rw (p0, p1, p2, p3, q0, q1, q2, q3)
 
-  pub cuts-within : ((t : ℕ) → 7 * edge_count (b t) ≤ length (b t).edges) → (7 * c0 ≤ length e0) × (7 * c1 ≤ length e1) × (7 * c2 ≤ length e2) × (7 * c3 ≤ length e3)
+  pub cuts-within : ((t : ℕ) → 7 * edge_count (b t) ≤ length (b t).edges) → (7 * get_or cs 0 0 ≤ length e0) × (7 * get_or cs 1 0 ≤ length e1) × (7 * get_or cs 2 0 ≤ length e2) × (7 * get_or cs 3 0 ≤ length e3)
   cuts-within h =
       let p0 : e0 ≡ (b 0).edges = cc in
       let p1 : e1 ≡ (b 1).edges = cc in
       let p2 : e2 ≡ (b 2).edges = cc in
       let p3 : e3 ≡ (b 3).edges = cc in
-      let q0 : c0 ≡ edge_count (b 0) = cc in
-      let q1 : c1 ≡ edge_count (b 1) = cc in
-      let q2 : c2 ≡ edge_count (b 2) = cc in
-      let q3 : c3 ≡ edge_count (b 3) = cc in
+      let q0 : get_or cs 0 0 ≡ edge_count (b 0) = ap (λ (l : List ℕ). get_or l 0 0) q in
+      let q1 : get_or cs 1 0 ≡ edge_count (b 1) = ap (λ (l : List ℕ). get_or l 1 0) q in
+      let q2 : get_or cs 2 0 ≡ edge_count (b 2) = ap (λ (l : List ℕ). get_or l 2 0) q in
+      let q3 : get_or cs 3 0 ≡ edge_count (b 3) = ap (λ (l : List ℕ). get_or l 3 0) q in
       (rw (p0, q0) (h 0), rw (p1, q1) (h 1), rw (p2, q2) (h 2), rw (p3, q3) (h 3))
 
 -- From what the rooms hold: the tables may be cut, and the run by them is the run.
-module _ (m count : ℕ) (tables : List (List ℕ)) (n0 n1 n2 n3 e0 e1 e2 e3 M all sched : List ℕ) (ns : List (List ℕ)) (d0 d1 d2 d3 : List ℕ) (c0 c1 c2 c3 : ℕ)
-    (g : Fills m count tables (rooms m count tables n0 n1 n2 n3 e0 e1 e2 e3 M all sched) ns (d0 ∷ d1 ∷ d2 ∷ d3 ∷ []) (c0 ∷ c1 ∷ c2 ∷ c3 ∷ [])) where
+module _ (m count : ℕ) (tables : List (List ℕ)) (n0 n1 n2 n3 e0 e1 e2 e3 M all sched : List ℕ) (ns : List (List ℕ)) (d0 d1 d2 d3 : List ℕ) (cs : List ℕ)
+    (g : Fills m count tables (rooms m count tables n0 n1 n2 n3 e0 e1 e2 e3 M all sched) ns (d0 ∷ d1 ∷ d2 ∷ d3 ∷ []) cs) where
   abbrev lent : Rooms
   lent = rooms m count tables n0 n1 n2 n3 e0 e1 e2 e3 M all sched
 
-  pub go-within : (count ≤ 4) × (7 * c0 ≤ length d0) × (7 * c1 ≤ length d1) × (7 * c2 ≤ length d2) × (7 * c3 ≤ length d3)
+  pub go-within : (count ≤ 4) × (7 * get_or cs 0 0 ≤ length d0) × (7 * get_or cs 1 0 ≤ length d1) × (7 * get_or cs 2 0 ≤ length d2) × (7 * get_or cs 3 0 ≤ length d3)
   go-within =
-      let w = cuts-within (made_for m count tables lent) d0 d1 d2 d3 c0 c1 c2 c3 g.edges g.counts (λ t. made-within m (get_or tables t []) (node_room lent t) (edge_room lent t) (ltb t count)) in
-      (few m count tables n0 n1 n2 n3 e0 e1 e2 e3 M all sched ns (d0 ∷ d1 ∷ d2 ∷ d3 ∷ []) (c0 ∷ c1 ∷ c2 ∷ c3 ∷ []) g, w.0, w.1, w.2, w.3)
+      let w = cuts-within (made_for m count tables lent) d0 d1 d2 d3 cs g.edges g.counts (λ t. made-within m (get_or tables t []) (node_room lent t) (edge_room lent t) (ltb t count)) in
+      (few m count tables n0 n1 n2 n3 e0 e1 e2 e3 M all sched ns (d0 ∷ d1 ∷ d2 ∷ d3 ∷ []) cs g, w.0, w.1, w.2, w.3)
 
   pub ran-gone : (x : Ran)
-      → Goes count (λ t. get_or ns t []) (run (sought_step (first_edges c0 d0 ∷ first_edges c1 d1 ∷ first_edges c2 d2 ∷ first_edges c3 d3 ∷ [])) (items sched) 0 (world count M (start_four all))) x
+      → Goes count (λ t. get_or ns t []) (run (sought_step (first_edges (get_or cs 0 0) d0 ∷ first_edges (get_or cs 1 0) d1 ∷ first_edges (get_or cs 2 0) d2 ∷ first_edges (get_or cs 3 0) d3 ∷ [])) (items sched) 0 (world count M (start_four all))) x
       → Runs (result m count tables n0 n1 n2 n3 e0 e1 e2 e3 M all sched) ns (d0 ∷ d1 ∷ d2 ∷ d3 ∷ []) x
   ran-gone x h =
-      ran-steps m count tables n0 n1 n2 n3 e0 e1 e2 e3 M all sched ns (d0 ∷ d1 ∷ d2 ∷ d3 ∷ []) (c0 ∷ c1 ∷ c2 ∷ c3 ∷ []) g _ (cut-tables (made_for m count tables lent) d0 d1 d2 d3 c0 c1 c2 c3 g.edges g.counts) x h
+      ran-steps m count tables n0 n1 n2 n3 e0 e1 e2 e3 M all sched ns (d0 ∷ d1 ∷ d2 ∷ d3 ∷ []) cs g _ (cut-tables (made_for m count tables lent) d0 d1 d2 d3 cs g.edges g.counts) x h

@@ -1,4 +1,6 @@
 pub mod Laws
+pub mod Items
+pub mod Only
 pub mod Beside
 pub mod Simulated
 pub mod Worlds

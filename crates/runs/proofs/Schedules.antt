@@ -71,3 +71,15 @@ module _ {T : Type 0} (step : Step T) where
   pub carried-as-many : (ks : List Item) (w e : World T) → CarriedOut (move step) ks w e → AsMany w e
   carried-as-many [] w e g = ap (λ (x : World T). length x.threads) (sym g)
   carried-as-many (k ∷ ks) w e g = carried-as-many ks g.0 e g.2 ∙ holds_at (AsMany w) (move step k w) g.0 g.1 (move-as-many k w)
+
+  pub run-as-many : (ks : List Item) (n : ℕ) (w : World T) → AsMany w (run step ks n w).world
+  unfolding run Option-elim
+  run-as-many [] n w = refl
+  run-as-many (k ∷ ks) n w = go (run-as-many ks (suc n)) (move step k w) (move-as-many k w)
+    where
+      stand : Option (World T) → Stand T
+      stand o = Option-elim o (record { world = w; steps = n; stopped = true }) (run step ks (suc n))
+
+      go : ((x : World T) → AsMany x (run step ks (suc n) x).world) → (o : Option (World T)) → Holds (AsMany w) o → AsMany w (stand o).world
+      go later none h = refl
+      go later (some x) h = later x ∙ h

@@ -3,12 +3,11 @@ use mathlib.Core.Path.{◌≡◌, ap}
 use mathlib.Core.List.{List}
 use Prim.Native.Nat.{ℕ}
 use Rattle.lists.proofs.Only.{only as equals}
-use Rattle.printed.specs.declared.Printed.{Printed}
-use Rattle.printed.specs.Printed.{print'}
+use Rattle.printed.specs.Printed.{Answer, print'}
 use Rattle.show.specs.Show.{Screen, TextShown}
 
 module _ (text : List ℕ) (table_room node_room edge_room room : ℕ) where
-  pub only : (r r₂ : Printed) (t t₂ n n₂ e e₂ a a₂ : List ℕ) → TextShown text table_room node_room edge_room room r t n e a → TextShown text table_room node_room edge_room room r₂ t₂ n₂ e₂ a₂
+  pub only : (r r₂ : Answer) (t t₂ n n₂ e e₂ a a₂ : List ℕ) → TextShown text table_room node_room edge_room room r t n e a → TextShown text table_room node_room edge_room room r₂ t₂ n₂ e₂ a₂
       → (r ≡ r₂) × (t ≡ t₂) × (n ≡ n₂) × (e ≡ e₂) × (a ≡ a₂)
   only r r₂ t t₂ n n₂ e e₂ a a₂ p q =
       let first : Screen = record { print = print' r a; nodes = n; edges = e } in

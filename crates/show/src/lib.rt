@@ -6,17 +6,16 @@ ghost use Rattle.printed.specs.Printed.{print'};
 ghost use Rattle.show.specs.Show.{shown_refusal, TableShown, TextShown};
 
 use builder::build;
-use graphs::Built;
-use pending::smaller;
 use print::{print, print_refusal};
-use printed::Printed;
-use text::{Reading, read};
-use thread::{Refusal, clear, number_of, place_of};
+use printed::PrintError;
+use text::read;
+use thread::{LINE_WIDTH, Refusal, clear};
 
-fn show_refusal(refusal: Refusal, area: &mut [u8]) -> Printed
+#[tactic(auto, unfolding(crate::specs::Show::shown_refusal))]
+fn show_refusal(refusal: Refusal, area: &mut [u8]) -> Result<usize, PrintError>
     ensures { print' result area.new ≡ shown_refusal refusal (length area.old) }
 {
-    print_refusal(number_of(refusal), place_of(refusal), area)
+    print_refusal(refusal.number(), refusal.place(), area)
 }
 
 // the graph of a table
@@ -26,12 +25,12 @@ fn show_table(
     nodes: &mut [u32],
     edges: &mut [u32],
     area: &mut [u8],
-) -> Printed
+) -> Result<usize, PrintError>
     ensures { TableShown model table.now (length nodes.old) (length edges.old) (length area.old) result nodes.new edges.new area.new }
 {
     match build(model, table, nodes, edges) {
-        Built::Refused(refusal) => show_refusal(refusal, area),
-        Built::Graph(n, m) => print(model, n, m, nodes, edges, area),
+        Err(refusal) => show_refusal(refusal, area),
+        Ok(built) => print(model, built.nodes, built.edges, nodes, edges, area),
     }
 }
 
@@ -42,17 +41,17 @@ pub fn show(
     nodes: &mut [u32],
     edges: &mut [u32],
     area: &mut [u8],
-) -> Printed
+) -> Result<usize, PrintError>
     ensures { TextShown text.now (length table.old) (length nodes.old) (length edges.old) (length area.old) result table.new nodes.new edges.new area.new }
 {
     match read(text, table) {
-        Reading::Refused(refusal) => {
+        Err(refusal) => {
             clear(nodes);
             clear(edges);
             show_refusal(refusal, area)
         }
-        Reading::Read(model, lines) => {
-            let end = smaller(5 * (lines as usize), table.len());
+        Ok((model, lines)) => {
+            let end = (LINE_WIDTH * lines as usize).min(table.len());
             show_table(model, &table[..end], nodes, edges, area)
         }
     }

@@ -2,8 +2,7 @@
 use Rattle.std.specs.Prelude.{ℕ, ◌*◌, List, [], ◌∷◌, map, take, drop}
 use Rattle.thread.specs.Sizes.{registers}
 use Rattle.thread.specs.Numbers.{filled}
-use Rattle.runs.specs.declared.Ended.{Ended}
-use Rattle.runs.specs.Run.{World}
+use Rattle.runs.specs.Run.{Ended, World}
 use Rattle.runs.specs.Start.{Start}
 use Rattle.runs.specs.Shown.{ShownThread, Shown, nobody}
 use Rattle.shown.specs.declared.ThreadState.{ThreadState}

@@ -1,11 +1,11 @@
 // What both runs give back, as the code holds it.
 #![tactic(auto)]
 
-ghost use Rattle.std.specs.Prelude.{◌≡◌};
+ghost use Rattle.std.specs.Prelude.{◌≡◌, Err};
 ghost use Rattle.runs.specs.Shown.{zero_state};
 ghost use Rattle.shown.specs.Ran.{part_of, nobody_state, ran_of};
 
-use runs::Ended;
+use runs::{Ended, Unfinished};
 use thread::{Line, Refusal};
 
 // a thread as it is shown: the first `count` names (variables, or store lines) and values wait, in order; unused places are 0
@@ -32,10 +32,8 @@ pub fn part(all: &[u32], t: u32) -> [u32; 16]
 {
     let first = 16 * (t as usize);
     let mut own = [0u32; 16];
-    let mut j: usize = 0;
-    while j < 16 {
+    for j in 0..16 {
         own[j] = thread::number(all, first + j);
-        j += 1;
     }
     own
 }
@@ -55,11 +53,11 @@ pub fn nobody() -> ThreadState
 
 // "A refusal zeroes .. state and count"
 pub fn refused(t: u32, refusal: Refusal) -> Ran
-    ensures { result ≡ ran_of (Ended.Refused t refusal) zero_state }
+    ensures { result ≡ ran_of (Err (Unfinished.Refused t refusal)) zero_state }
 {
     let nobody = nobody();
     Ran {
-        ended: Ended::Refused(t, refusal),
+        ended: Err(Unfinished::Refused(t, refusal)),
         memory: [0u32; 16],
         threads: [nobody; 4],
     }

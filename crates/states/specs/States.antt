@@ -1,4 +1,5 @@
 -- What the code shows of a generated thread, for every node table, any numbers.
+use Rattle.runs.specs.Run.{Ended}
 use Rattle.std.specs.Prelude.{cond, ℕ, ◌+◌, ◌*◌, ◌≤◌, List, [], length, get_or, ltb}
 use Rattle.std.proofs.Math.Option.{some}
 use Rattle.lists.specs.Lists.{collect}
@@ -6,7 +7,6 @@ use Rattle.thread.specs.Sizes.{node_width, most_waiting}
 use Rattle.thread.specs.Numbers.{◌!◌}
 use Rattle.thread.specs.Table.{line}
 use Rattle.graphs.specs.Records.{node}
-use Rattle.runs.specs.declared.Ended.{Ended}
 use Rattle.generated.specs.declared.Generated.{Generated}
 use Rattle.shown.specs.declared.ThreadState.{ThreadState}
 use Rattle.shown.specs.declared.Ran.{Ran}

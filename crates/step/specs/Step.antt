@@ -1,23 +1,22 @@
 -- A generated thread's step in two parts: what a record says is to change, and the thread and memory so changed.
-use Rattle.std.specs.Prelude.{true, false, cond, ℕ, List, set, eqb}
-use Rattle.std.proofs.Math.Option.{Option, none, some}
+use Rattle.std.specs.Prelude.{cond, ℕ, List, set, eqb, Option, Some, None, option_map}
+use Rattle.std.proofs.Math.Option as maybe
+use Rattle.std.proofs.Math.Option.{none, some}
+use Rattle.lists.specs.Options.{option_of}
 use Rattle.thread.specs.declared.Node.{Node}
 use Rattle.thread.specs.declared.Op.{Op}
 use Rattle.thread.specs.declared.Op.TheVariants as O
 use Rattle.thread.specs.Word.{add32, sub32}
 use Rattle.thread.specs.Numbers.{◌!◌}
 use Rattle.runs.specs.Run.{In}
+use Rattle.graphs.specs.declared.Edge.{Edge}
 use Rattle.graphs.specs.Records.{edges_in}
 use Rattle.generated.specs.declared.Generated.{Generated}
 use Rattle.generated.specs.Machine.{waiting_value, edge_for}
-use Rattle.edges.specs.declared.Taken.{Taken}
-use Rattle.edges.specs.declared.Taken.TheVariants as T
-use Rattle.edges.specs.Answers.{taken}
 use Rattle.edges.specs.Sought.{edge_sought}
 use Rattle.step.specs.declared.Change.{Change}
 use Rattle.step.specs.declared.Change.TheVariants as C
 use Rattle.step.specs.declared.Moved.{Moved}
-use Rattle.step.specs.declared.Stepped.{Stepped}
 
 -- what an operation changes on the way to a node, of memory M, registers R and auxiliary values A
 unfoldable pub change_of : Op → Node → List ℕ → List ℕ → List ℕ → Change
@@ -37,49 +36,63 @@ change_of (O.IfZ r) to M R A = C.Go to
 change_of (O.Put x l) to M R A = C.Memory to x (waiting_value A l)
 
 -- what changes along an edge, if one was found
-unfoldable pub change_along : Taken → List ℕ → List ℕ → List ℕ → Change
+unfoldable pub change_along : Option Edge → List ℕ → List ℕ → List ℕ → Option Change
 unfolding change_of
-change_along T.Nothing M R A = C.Nothing
-change_along (T.Along e) M R A = change_of e.op e.to M R A
+change_along None M R A = None
+change_along (Some e) M R A = Some (change_of e.op e.to M R A)
 
--- what a choice changes, by the edge records of a table
-unfoldable pub decided : List ℕ → ℕ → List ℕ → Generated → Change
-unfolding edges_in edge_for change_along
-decided table c M own = change_along (taken (edge_for (edges_in table) own.node c own.registers)) M own.registers own.auxiliaries
+-- what a choice changes, by the edge records of a table, if the thread has got that choice
+unfoldable pub decided : List ℕ → ℕ → List ℕ → Generated → Option Change
+unfolding edges_in edge_for change_along option_of
+decided table c M own = change_along (option_of (edge_for (edges_in table) own.node c own.registers)) M own.registers own.auxiliaries
 
 -- the same by the search for tables in the order of their nodes
-unfoldable pub decided_sought : List ℕ → ℕ → List ℕ → Generated → Change
-unfolding edge_sought change_along
-decided_sought table c M own = change_along (taken (edge_sought table own.node c own.registers)) M own.registers own.auxiliaries
+unfoldable pub decided_sought : List ℕ → ℕ → List ℕ → Generated → Option Change
+unfolding edge_sought change_along option_of
+decided_sought table c M own = change_along (option_of (edge_sought table own.node c own.registers)) M own.registers own.auxiliaries
 
 abbrev pub moved_to : List ℕ → Node → List ℕ → List ℕ → Moved
-moved_to M to R A = record { ok = true; memory = M; own = record { node = to; registers = R; auxiliaries = A } }
+moved_to M to R A = record { memory = M; own = record { node = to; registers = R; auxiliaries = A } }
 
-abbrev pub stays : List ℕ → Generated → Moved
-stays M own = record { ok = false; memory = M; own = own }
+-- memory and thread after a change, of memory M, registers R and auxiliary values A; a number that is past the end changes nothing there
+unfoldable pub applied : Change → List ℕ → List ℕ → List ℕ → Moved
+applied (C.Go to) M R A = moved_to M to R A
+applied (C.Register to r v) M R A = moved_to M to (set R r v) A
+applied (C.Auxiliary to l v) M R A = moved_to M to R (set A l.0 v)
+applied (C.Memory to x v) M R A = moved_to (set M x v) to R A
+applied (C.Swap to x v r) M R A = moved_to (set M x v) to (set R r 1) A
 
--- memory and thread after a change; a number that is past the end changes nothing there
-unfoldable pub applied : Change → List ℕ → Generated → Moved
-applied C.Nothing M own = stays M own
-applied (C.Go to) M own = moved_to M to own.registers own.auxiliaries
-applied (C.Register to r v) M own = moved_to M to (set own.registers r v) own.auxiliaries
-applied (C.Auxiliary to l v) M own = moved_to M to own.registers (set own.auxiliaries l.0 v)
-applied (C.Memory to x v) M own = moved_to (set M x v) to own.registers own.auxiliaries
-applied (C.Swap to x v r) M own = moved_to (set M x v) to (set own.registers r 1) own.auxiliaries
+-- the same of a change, if there is one
+unfoldable pub changed : Option Change → List ℕ → Generated → Option Moved
+unfolding applied
+changed None M own = None
+changed (Some d) M own = Some (applied d M own.registers own.auxiliaries)
 
--- the answer for a step: done, with what it leaves, or not, with nothing changed
-unfoldable pub moved_of : Option (In Generated) → List ℕ → Generated → Moved
-moved_of none M own = stays M own
-moved_of (some s) M own = record { ok = true; memory = s.memory; own = s.own }
+-- the answer for a step: what it leaves, if there is one
+unfoldable pub moved_of : maybe.Option (In Generated) → Option Moved
+moved_of none = None
+moved_of (some s) = Some (record { memory = s.memory; own = s.own })
 
 -- the step by the search: what is decided, applied
-unfoldable pub searched : List ℕ → ℕ → List ℕ → Generated → Moved
-unfolding decided_sought applied
-searched table c M own = applied (decided_sought table c M own) M own
+unfoldable pub searched : List ℕ → ℕ → List ℕ → Generated → Option Moved
+unfolding decided_sought changed
+searched table c M own = changed (decided_sought table c M own) M own
 
--- a thread whose values are lent, and what a step in place leaves of memory, registers and auxiliary values
+-- a thread whose values are lent
 abbrev pub held : Node → List ℕ → List ℕ → Generated
 held n R A = record { node = n; registers = R; auxiliaries = A }
 
-abbrev pub left : Stepped → List ℕ → List ℕ → List ℕ → Moved
-left s M R A = record { ok = s.ok; memory = M; own = held s.node R A }
+-- what a step in place leaves: the thread's node, if there was a step, and memory, registers and auxiliary values
+pub record Left : Type 0 where
+  pub node : Option Node
+  pub memory : List ℕ
+  pub registers : List ℕ
+  pub auxiliaries : List ℕ
+
+abbrev pub left : Option Node → List ℕ → List ℕ → List ℕ → Left
+left n M R A = record { node = n; memory = M; registers = R; auxiliaries = A }
+
+-- where there was no step, the values are as they were
+abbrev pub left_by : Option Moved → List ℕ → List ℕ → List ℕ → Left
+left_by None M R A = left None M R A
+left_by (Some m) M R A = left (Some m.own.node) m.memory m.own.registers m.own.auxiliaries

@@ -4,17 +4,16 @@
 ghost use Rattle.std.specs.Prelude.{◌≡◌, cond, set, eqb};
 ghost use Rattle.thread.specs.Numbers.{◌!◌};
 ghost use Rattle.generated.specs.Machine.{waiting_value, generated_step};
-ghost use Rattle.step.specs.Step.{change_of, change_along, decided, decided_sought, applied, moved_of, held, left, searched};
+ghost use Rattle.step.specs.Step.{change_of, change_along, decided, decided_sought, moved_to, applied, moved_of, held, left, left_by, searched};
 
-use edges::Taken;
 use generated::Generated;
+use graphs::Edge;
 use thread::{Line, Node, Op};
 
 // What a step changes, and the node it goes to: nothing else, a register, a line's auxiliary, a variable, or a variable and
-// the register that a cas sets to 1. Nothing: there is no step.
+// the register that a cas sets to 1.
 #[derive(Clone, Copy)]
 pub enum Change {
-    Nothing,
     Go(Node),
     Register(Node, u32, u32),
     Auxiliary(Node, Line, u32),
@@ -22,30 +21,11 @@ pub enum Change {
     Swap(Node, u32, u32, u32),
 }
 
-// memory and thread after a step; not ok: there was none
+// memory and thread after a step
 #[derive(Clone, Copy)]
 pub struct Moved {
-    pub ok: bool,
     pub memory: [u32; 16],
     pub own: Generated,
-}
-
-// what a step in place answers beside the values it leaves: whether there was one, and the thread's node then
-#[derive(Clone, Copy)]
-pub struct Stepped {
-    pub ok: bool,
-    pub node: Node,
-}
-
-// v at place i; past the end nothing changes
-pub fn write(values: &mut [u32], i: u32, v: u32)
-    ensures { values.new ≡ set values.old i v }
-{
-    let at = i as usize;
-    if values.len() <= at {
-        return;
-    }
-    values[at] = v;
 }
 
 // where the value of a waiting store comes from: the auxiliary of its line
@@ -103,33 +83,31 @@ pub fn change_of(op: Op, to: Node, memory: &[u32], registers: &[u32], auxiliarie
             value(registers, t),
         ),
         Op::Put(x, l) => Change::Memory(to, x, waiting_value(auxiliaries, l)),
-        Op::Pass => Change::Go(to),
-        Op::IfNz(_) => Change::Go(to),
-        Op::IfZ(_) => Change::Go(to),
+        Op::Pass | Op::IfNz(_) | Op::IfZ(_) => Change::Go(to),
     }
 }
 
 // what changes along an edge, if one was found
 #[tactic(auto, unfolding(crate::specs::Step::change_along))]
-pub fn change_along(found: Taken, memory: &[u32], registers: &[u32], auxiliaries: &[u32]) -> Change
+pub fn change_along(
+    found: Option<Edge>,
+    memory: &[u32],
+    registers: &[u32],
+    auxiliaries: &[u32],
+) -> Option<Change>
     ensures { result ≡ change_along found memory.now registers.now auxiliaries.now }
 {
-    let Taken::Along(e) = found else {
-        return Change::Nothing;
-    };
-    let op = e.op;
-    change_of(op, e.to, memory, registers, auxiliaries)
+    let e = found?;
+    Some(change_of(e.op, e.to, memory, registers, auxiliaries))
 }
 
-// what a choice changes, by the records of an edge table
+// what a choice changes, by the records of an edge table, if the thread has got that choice
 #[tactic(auto, unfolding(crate::specs::Step::decided))]
-pub fn decide(table: &[u32], choice: u32, memory: [u32; 16], own: Generated) -> Change
+pub fn decide(table: &[u32], choice: u32, memory: [u32; 16], own: Generated) -> Option<Change>
     ensures { result ≡ decided table.now choice memory own }
 {
-    let registers = own.registers;
-    let auxiliaries = own.auxiliaries;
-    let found = edges::edge_for(table, own.node, choice, registers);
-    change_along(found, &memory, &registers, &auxiliaries)
+    let found = edges::edge_for(table, own.node, choice, own.registers);
+    change_along(found, &memory, &own.registers, &own.auxiliaries)
 }
 
 // the same by the search for tables in the order of their nodes, of a thread whose values are lent
@@ -141,64 +119,54 @@ pub fn decide_in(
     memory: &[u32],
     registers: &[u32],
     auxiliaries: &[u32],
-) -> Change
+) -> Option<Change>
     ensures { result ≡ decided_sought table.now choice memory.now (held node registers.now auxiliaries.now) }
 {
     let found = edges::edge_sought_in(table, node, choice, registers);
     change_along(found, memory, registers, auxiliaries)
 }
 
-// a change applied where the values lie
+// a change applied where the values lie; the node it goes to
 #[tactic(auto, unfolding(crate::specs::Step::applied))]
 pub fn apply_in(
     change: Change,
-    node: Node,
     memory: &mut [u32],
     registers: &mut [u32],
     auxiliaries: &mut [u32],
-) -> Stepped
-    ensures { left result memory.new registers.new auxiliaries.new ≡ applied change memory.old (held node registers.old auxiliaries.old) }
+) -> Node
+    ensures { moved_to memory.new result registers.new auxiliaries.new ≡ applied change memory.old registers.old auxiliaries.old }
 {
     match change {
-        Change::Nothing => Stepped { ok: false, node },
-        Change::Go(to) => Stepped { ok: true, node: to },
+        Change::Go(to) => to,
         Change::Register(to, r, v) => {
-            write(registers, r, v);
-            Stepped { ok: true, node: to }
+            thread::write(registers, r as usize, v);
+            to
         }
         Change::Auxiliary(to, l, v) => {
-            write(auxiliaries, l.0, v);
-            Stepped { ok: true, node: to }
+            thread::write(auxiliaries, l.0 as usize, v);
+            to
         }
         Change::Memory(to, x, v) => {
-            write(memory, x, v);
-            Stepped { ok: true, node: to }
+            thread::write(memory, x as usize, v);
+            to
         }
         Change::Swap(to, x, v, r) => {
-            write(memory, x, v);
-            write(registers, r, 1);
-            Stepped { ok: true, node: to }
+            thread::write(memory, x as usize, v);
+            thread::write(registers, r as usize, 1);
+            to
         }
     }
 }
 
 // memory and thread after a change
 pub fn apply(change: Change, memory: [u32; 16], own: Generated) -> Moved
-    ensures { result ≡ applied change memory own }
+    ensures { result ≡ applied change memory own.registers own.auxiliaries }
 {
     let mut after = memory;
     let mut registers = own.registers;
     let mut auxiliaries = own.auxiliaries;
-    let s = apply_in(
-        change,
-        own.node,
-        &mut after,
-        &mut registers,
-        &mut auxiliaries,
-    );
-    let node = s.node;
+    let node = apply_in(change, &mut after, &mut registers, &mut auxiliaries);
     Moved {
-        ok: s.ok,
         memory: after,
         own: Generated {
             node,
@@ -208,14 +176,16 @@ pub fn apply(change: Change, memory: [u32; 16], own: Generated) -> Moved
     }
 }
 
-// the step of a thread at a choice, for every table: done, or not and nothing changed
-pub fn step(table: &[u32], choice: u32, memory: [u32; 16], own: Generated) -> Moved
-    ensures { result ≡ moved_of (generated_step table.now choice (record { memory = memory; own = own })) memory own }
+// the step of a thread at a choice, for every table, if it has got that choice
+pub fn step(table: &[u32], choice: u32, memory: [u32; 16], own: Generated) -> Option<Moved>
+    ensures { result ≡ moved_of (generated_step table.now choice (record { memory = memory; own = own })) }
 {
-    apply(decide(table, choice, memory, own), memory, own)
+    let change = decide(table, choice, memory, own)?;
+    Some(apply(change, memory, own))
 }
 
-// the step by the search for tables in the order of their nodes, done where the values lie
+// The step by the search for tables in the order of their nodes, done where the values lie: the thread's node then. None:
+// there is no step, and the values are as they were.
 #[tactic(auto, unfolding(crate::specs::Step::searched))]
 pub fn step_in(
     table: &[u32],
@@ -224,20 +194,25 @@ pub fn step_in(
     memory: &mut [u32],
     registers: &mut [u32],
     auxiliaries: &mut [u32],
-) -> Stepped
-    ensures { left result memory.new registers.new auxiliaries.new ≡ searched table.now choice memory.old (held node registers.old auxiliaries.old) }
+) -> Option<Node>
+    ensures { left result memory.new registers.new auxiliaries.new ≡ left_by (searched table.now choice memory.old (held node registers.old auxiliaries.old)) memory.old registers.old auxiliaries.old }
 {
-    let change = decide_in(table, choice, node, memory, registers, auxiliaries);
-    apply_in(change, node, memory, registers, auxiliaries)
+    let change = decide_in(table, choice, node, memory, registers, auxiliaries)?;
+    Some(apply_in(change, memory, registers, auxiliaries))
 }
 
 // the same by value
 #[tactic(auto, unfolding(crate::specs::Step::searched))]
-pub fn step_sought(table: &[u32], choice: u32, memory: [u32; 16], own: Generated) -> Moved
+pub fn step_sought(table: &[u32], choice: u32, memory: [u32; 16], own: Generated) -> Option<Moved>
     ensures { result ≡ searched table.now choice memory own }
 {
-    let registers = own.registers;
-    let auxiliaries = own.auxiliaries;
-    let change = decide_in(table, choice, own.node, &memory, &registers, &auxiliaries);
-    apply(change, memory, own)
+    let change = decide_in(
+        table,
+        choice,
+        own.node,
+        &memory,
+        &own.registers,
+        &own.auxiliaries,
+    )?;
+    Some(apply(change, memory, own))
 }

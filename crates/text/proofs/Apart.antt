@@ -7,10 +7,10 @@ use lib.ListN.{length, length-append}
 use Rattle.lists.specs.Lists.{All}
 use Rattle.thread.specs.Numbers.{zeros, filled}
 use Rattle.thread.specs.Table.{fields_of}
-use Rattle.text.specs.declared.Reading.TheVariants as G
 use Rattle.text.specs.Written.{Entry, Proper, Text, ProperText, numbers_of, table_of}
 use Rattle.text.specs.Reading.{entry}
-use Rattle.text.specs.Read.{ReadResult, accepted}
+use Rattle.std.specs.Prelude.{Ok}
+use Rattle.text.specs.Read.{Reading, ReadResult, accepted}
 use Rattle.text.proofs.Bytes.{count-le}
 use Rattle.text.proofs.Entries.{five-long}
 
@@ -57,9 +57,10 @@ table-long (e ∷ es) h = length-append (numbers_of e) (table_of es) ∙ omega (
 pub accepted-apart : (room : ℕ) (t u : Text) → ProperText t → ProperText u → accepted room t ≡ accepted room u → t ≡ u
 unfolding accepted filled
 accepted-apart room t u h k q =
-    let a : G.Read t.model (length t.lines) ≡ G.Read u.model (length u.lines) = ap (λ (r : ReadResult). r.answer) q in
-    let m : t.model ≡ u.model = cc in
-    let l : length t.lines ≡ length u.lines = cc in
+    let a : ◌≡◌ {A = Reading} (Ok (t.model, length t.lines)) (Ok (u.model, length u.lines)) = ap (λ (r : ReadResult). r.answer) q in
+    let p : ◌≡◌ {A = ℕ × ℕ} (t.model, length t.lines) (u.model, length u.lines) = cc in
+    let m : t.model ≡ u.model = ap (λ (x : ℕ × ℕ). x.0) p in
+    let l : length t.lines ≡ length u.lines = ap (λ (x : ℕ × ℕ). x.1) p in
     let b : table_of t.lines ++ zeros (room - length (table_of t.lines)) ≡ table_of u.lines ++ zeros (room - length (table_of u.lines)) = ap (λ (r : ReadResult). r.table) q in
     let n : length (table_of t.lines) ≡ length (table_of u.lines) = omega (arith, table-long t.lines h.lines, table-long u.lines k.lines) in
     let s = append-same (table_of t.lines) (table_of u.lines) (zeros (room - length (table_of t.lines))) (zeros (room - length (table_of u.lines))) n b in

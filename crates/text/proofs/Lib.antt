@@ -1,6 +1,8 @@
 pub mod Bytes
 pub mod Tables
 pub mod Lines
+pub mod Splits
+pub mod Feeds
 pub mod Parts
 pub mod Judging
 pub mod Entries

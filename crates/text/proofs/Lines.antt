@@ -1,23 +1,20 @@
 -- Laws of cutting: a text into lines, a line into parts, a line from its line feed.
-use mathlib.Core.Path.{◌≡◌, refl, sym, ap, ◌∙◌}
+use mathlib.Core.Path.{◌≡◌, refl, ap, ◌∙◌}
 use mathlib.Core.Logic.{◌⊎◌, inl, inr, ⊎_elim}
 use mathlib.Core.Bool.{Bool, true, false, cond}
 use mathlib.Core.Option.{Option, none, some, map}
-use Prim.Native.Nat.{ℕ, suc, ◌+◌, ◌≤◌, ◌<◌}
+use Prim.Native.Nat.{ℕ, suc, ◌<◌}
 use native.Mathlib.Omega.{arith}
-use native.Mathlib.Numerals.{add-one}
-use native.Mathlib.Decide.{dec_lt}
 use mathlib.Core.List.{List, [], ◌∷◌, ◌++◌}
-use lib.ListN.{length, take, drop, length-drop}
-use lib.Seq.{take-length, drop-drop}
+use lib.ListN.{length, take, drop}
 use lib.Dec.{eqb}
 use borrow.Author.Tests.{eq-eqb}
-use Rattle.lists.proofs.Tests.{eq-false, true-eq, false-eq, lt-true, lt-false}
+use Rattle.lists.proofs.Tests.{eq-false, true-eq, false-eq}
 use Rattle.lists.proofs.Lists.{not_some}
 use Rattle.text.specs.Written.{tab, feed}
 use Rattle.text.specs.Reading.{line_onto, text_lines, body, part_onto, parts}
-use Rattle.text.specs.Steps.{run, left}
-use Rattle.text.proofs.Bytes.{run-hit, run-miss, run-le}
+use Rattle.text.specs.Steps.{run}
+use Rattle.text.proofs.Bytes.{run-hit, run-miss}
 
 pub equal? : (m n : ℕ) → (m ≡ n) ⊎ ((m ≡ n) → ⊥)
 equal? m n = go (eqb m n) refl
@@ -84,6 +81,12 @@ body-lacks (b ∷ c ∷ l) e =
     (λ (n : b ≡ feed → ⊥). ap (map (λ k. b ∷ k)) (body-lacks (c ∷ l) (omega (arith, run-miss feed b (c ∷ l) n))))
     (equal? b feed)
 
+pub body-other : (l : List ℕ) (b : ℕ) → (b ≡ feed → ⊥) → body (l ++ (b ∷ [])) ≡ none
+unfolding body
+body-other [] b n = rw (eq-false b feed n)
+body-other (c ∷ []) b n = ap (map (λ k. c ∷ k)) (body-other [] b n)
+body-other (c ∷ d ∷ l) b n = ap (map (λ k. c ∷ k)) (body-other (d ∷ l) b n)
+
 pub body_is : (l k : List ℕ) → body l ≡ some k → l ≡ k ++ (feed ∷ [])
 unfolding body
 body_is [] k e = absurd (not_some e)
@@ -97,58 +100,3 @@ body_is (b ∷ c ∷ l) k e = go (body (c ∷ l)) (body_is (c ∷ l)) e refl
     go : (o : Option (List ℕ)) → ((j : List ℕ) → body (c ∷ l) ≡ some j → c ∷ l ≡ j ++ (feed ∷ [])) → map (λ k. b ∷ k) o ≡ some k → body (c ∷ l) ≡ o → b ∷ c ∷ l ≡ k ++ (feed ∷ [])
     go none ih e u = absurd (not_some e)
     go (some j) ih e u = let q : b ∷ j ≡ k = cc in rw (← q) (ap (λ (x : List ℕ). b ∷ x) (ih j u))
-
--- the first part, up to its tab or the end
-parts_cut : (l : List ℕ) → run tab l < length l → parts l ≡ take (run tab l) l ∷ parts (drop (suc (run tab l)) l)
-unfolding part_onto
-parts_cut [] h = absurd (omega arith)
-parts_cut (b ∷ l) h =
-    ⊎_elim
-    (λ (e : b ≡ tab). rw (run-hit tab b l e) (part-hit b l e))
-    (λ (n : b ≡ tab → ⊥).
-    let r = run-miss tab b l n in
-    rw r (part-miss b l n ∙ ap (part_onto false b) (parts_cut l (omega arith))))
-    (equal? b tab)
-
-parts-end : (l : List ℕ) → run tab l ≡ length l → parts l ≡ l ∷ []
-unfolding part_onto parts
-parts-end [] e = refl
-parts-end (b ∷ l) e =
-    ⊎_elim
-    (λ (q : b ≡ tab). absurd (omega (arith, run-hit tab b l q)))
-    (λ (n : b ≡ tab → ⊥). part-miss b l n ∙ ap (part_onto false b) (parts-end l (omega (arith, run-miss tab b l n))))
-    (equal? b tab)
-
-left-more : (l : List ℕ) (at : ℕ) → at < length l → left l at ≡ parts (drop (at + 1) l)
-unfolding left
-left-more l at h = rw (lt-true at (length l) h)
-
-pub left-none : (l : List ℕ) (at : ℕ) → length l ≤ at → left l at ≡ []
-unfolding left
-left-none l at h = rw (lt-false at (length l) h)
-
-pub parts-left : (l : List ℕ) → parts l ≡ take (run tab l) l ∷ left l (run tab l)
-parts-left l = go (dec_lt (run tab l) (length l))
-  where
-    go : Dec (run tab l < length l) → parts l ≡ take (run tab l) l ∷ left l (run tab l)
-    go (yes h) = parts_cut l h ∙ rw (left-more l (run tab l) h, add-one)
-    go (no h) =
-        let e : run tab l ≡ length l = omega (arith, run-le tab l) in
-        parts-end l e ∙ rw (e, left-none l (length l) (omega arith), take-length l)
-
-left-shift : (l : List ℕ) (a r : ℕ) → a ≤ length l → left (drop a l) r ≡ left l (a + r)
-left-shift l a r h = go (dec_lt r (length (drop a l)))
-  where
-    go : Dec (r < length (drop a l)) → left (drop a l) r ≡ left l (a + r)
-    go (yes k) =
-        let e : a + (r + 1) ≡ a + r + 1 = omega arith in
-        left-more (drop a l) r k ∙ rw (drop-drop (r + 1) a l, e) (sym (left-more l (a + r) (omega (arith, length-drop a l))))
-    go (no k) = left-none (drop a l) r (omega arith) ∙ sym (left-none l (a + r) (omega (arith, length-drop a l)))
-
--- the part behind a tab, and what is left behind it
-pub left_cut : (l : List ℕ) (at : ℕ) → at < length l
-    → left l at ≡ take (run tab (drop (at + 1) l)) (drop (at + 1) l) ∷ left l (at + 1 + run tab (drop (at + 1) l))
-left_cut l at h =
-    left-more l at h
-    ∙ parts-left (drop (at + 1) l)
-    ∙ ap (λ (ps : List (List ℕ)). take (run tab (drop (at + 1) l)) (drop (at + 1) l) ∷ ps) (left-shift l (at + 1) (run tab (drop (at + 1) l)) (omega arith))

@@ -1,15 +1,11 @@
 -- Laws of the lent table: zeros, and five numbers stored in it.
 use mathlib.Core.Path.{◌≡◌, sym, ap, ◌∙◌}
-use Prim.Native.Nat.{ℕ, zero, suc, ◌+◌, ◌-◌, ◌*◌, ◌≤◌, ◌<◌}
+use Prim.Native.Nat.{ℕ, zero, suc, ◌+◌, ◌-◌, ◌*◌, ◌≤◌}
 use native.Mathlib.Omega.{arith}
-use native.Mathlib.Numerals.{add-one}
 use mathlib.Core.List.{List, [], ◌++◌, append-nil, append_assoc}
-use lib.ListN.{length, get_or, take, drop, set, take-append-drop, length-append, length-replicate}
-use lib.Seq.{paste, paste-suc, take-paste, drop-paste, take_all, drop-drop}
+use lib.ListN.{length, take, drop, take-append-drop, length-append, length-replicate}
+use lib.Seq.{paste, take-paste, drop-paste, take_all, drop-drop}
 use Rattle.thread.specs.Numbers.{zeros, filled}
-
-pub pasted-more : (t u : List ℕ) (at : ℕ) (s : List ℕ) (i : ℕ) → u ≡ paste t at s i → at + i < length t → i < length s → set u (at + i) (get_or s i 0) ≡ paste t at s (i + 1)
-pasted-more t u at s i e h k = rw (e, add-one) (paste-suc t at s i 0 h k)
 
 drop-zeros : (n m : ℕ) → drop n (zeros m) ≡ zeros (m - n)
 drop-zeros zero m = let e : m - 0 ≡ m = omega arith in rw e

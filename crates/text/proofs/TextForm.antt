@@ -8,10 +8,10 @@ use mathlib.Core.List.{List}
 use lib.ListN.{length}
 use Rattle.thread.specs.declared.Refusal.{Refusal}
 use Rattle.thread.specs.declared.Refusal.TheVariants as R
-use Rattle.text.specs.declared.Reading.TheVariants as G
 use Rattle.text.specs.Written.{Text, ProperText}
 use Rattle.text.specs.Reading.{text_lines, Judgement, bad_line, whole, read_text}
-use Rattle.text.specs.Read.{ReadResult, most_bytes, refused, accepted, judged, read}
+use Rattle.std.specs.Prelude.{Ok, Err}
+use Rattle.text.specs.Read.{Reading, ReadResult, most_bytes, refused, accepted, judged, read}
 use Rattle.text.specs.TextForm.{Forbidden, line_at, line_count, FirstBad, Fits, TooMany, WrittenOf, TextForm, WrittenApart}
 use Rattle.text.proofs.Answers.{many-64, many-room, few_lines, judged-many, judged-few, judged-by, read-long}
 use Rattle.text.proofs.Whole.{joined-lines, are-lines, read-text, written_apart, lines-first, none-bad, first-only}
@@ -57,16 +57,16 @@ verdict room text = go (dec_lt most_bytes (length text))
 module _ (room : ℕ) where
   place_same : (m n : ℕ) → refused room (R.BadText m) ≡ refused room (R.BadText n) → m ≡ n
   unfolding refused
-  place_same m n e = let a : G.Refused (R.BadText m) ≡ G.Refused (R.BadText n) = ap (λ (r : ReadResult). r.answer) e in cc
+  place_same m n e = let a : ◌≡◌ {A = Reading} (Err (R.BadText m)) (Err (R.BadText n)) = ap (λ (r : ReadResult). r.answer) e in cc
 
   place-many : (n : ℕ) → refused room (R.BadText n) ≡ refused room R.TooManyLines → ⊥
   unfolding refused
-  place-many n e = let a : G.Refused (R.BadText n) ≡ G.Refused R.TooManyLines = ap (λ (r : ReadResult). r.answer) e in let z : ◌≡◌ {A = ℕ} 0 1 = cc in omega arith
+  place-many n e = let a : ◌≡◌ {A = Reading} (Err (R.BadText n)) (Err R.TooManyLines) = ap (λ (r : ReadResult). r.answer) e in let z : ◌≡◌ {A = ℕ} 0 1 = cc in omega arith
 
   refused-good : (r : Refusal) (t : Text) → refused room r ≡ accepted room t → ⊥
   unfolding refused accepted
   refused-good r t e =
-      let a : G.Refused r ≡ G.Read t.model (length t.lines) = ap (λ (x : ReadResult). x.answer) e in let z : ◌≡◌ {A = ℕ} 0 1 = cc in omega arith
+      let a : ◌≡◌ {A = Reading} (Err r) (Ok (t.model, length t.lines)) = ap (λ (x : ReadResult). x.answer) e in let z : ◌≡◌ {A = ℕ} 0 1 = cc in omega arith
 
 -- a text is written of one text only, and has then no bad line
 same_text : (text : List ℕ) (t u : Text) → WrittenOf text t → WrittenOf text u → t ≡ u

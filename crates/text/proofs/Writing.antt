@@ -1,16 +1,15 @@
 -- Laws of writing one line: a line is read as an instruction exactly if it is what is written of it, and so for the models.
 use mathlib.Core.Path.{◌≡◌, refl, sym, ap, ◌∙◌}
 use mathlib.Core.Logic.{⊎_elim}
-use mathlib.Core.Bool.{Bool, true, false, cond}
+use mathlib.Core.Bool.{Bool, true, false}
 use mathlib.Core.Option.{Option, none, some, bind}
 use Prim.Native.Nat.{ℕ, zero, suc, ◌≤◌, ◌<◌}
 use native.Mathlib.Omega.{arith}
 use mathlib.Core.List.{List, [], ◌∷◌, ◌++◌, map, append-nil}
-use lib.ListN.{length, get_or}
-use lib.Dec.{eqb, ltb}
+use lib.ListN.{length}
+use lib.Dec.{eqb}
 use Rattle.lists.specs.Lists.{All}
 use Rattle.lists.proofs.Lists.{not_some, all-imp, all_append}
-use Rattle.lists.proofs.Tests.{true-lt, lt-true}
 use Rattle.thread.specs.Word.{word}
 use Rattle.thread.specs.Table.{fields_of}
 use Rattle.thread.specs.Names.{instr_names, instr_name, model_names, model_name}
@@ -18,12 +17,12 @@ use Rattle.decimal.specs.Decimal.{decimal, read_number, most}
 use Rattle.decimal.proofs.Decimal.{Digit, decimal-digits}
 use Rattle.decimal.proofs.Reading.{read-written, written_read}
 use Rattle.text.specs.Written.{Entry, Proper, tab, feed, kinds, models, tabbed, line_text, model_text}
-use Rattle.text.specs.Reading.{same_bytes, name_at, body, part_onto, parts, field_then, read_fields, read_parts, read_line, model_named, read_model}
+use Rattle.text.specs.Reading.{name_at, body, part_onto, parts, field_then, read_fields, read_parts, read_line, read_model}
 use Rattle.text.specs.TextForm.{NoFeed, Ended}
-use Rattle.text.proofs.Bytes.{same-is, place-hit, place-miss}
+use Rattle.text.proofs.Bytes.{Named, named}
 use Rattle.text.proofs.Lines.{equal?, part-hit, part-miss, body_ended, body_is}
 use Rattle.text.proofs.Parts.{fields-length}
-use Rattle.text.proofs.Entries.{IsEntry, entry-is, is-entry}
+use Rattle.text.proofs.Entries.{parts-some, parts-are, is-entry}
 
 -- bytes without tabs
 abbrev pub NoTab : List ℕ → Type 0
@@ -86,15 +85,6 @@ parts-joined (b ∷ l) =
     hit e [] n = absurd (n refl)
     hit e (p ∷ ps) n = ap (λ (c : ℕ). c ∷ (p ++ tabbed ps)) (sym e)
 
--- a name among names
-place_is : (name : List ℕ) (names : List (List ℕ)) → name_at name names < length names → get_or names (name_at name names) [] ≡ name
-place_is name [] h = absurd (omega arith)
-place_is name (n ∷ ns) h = go (same_bytes name n) refl (place_is name ns)
-  where
-    go : (t : Bool) → same_bytes name n ≡ t → (name_at name ns < length ns → get_or ns (name_at name ns) [] ≡ name) → get_or (n ∷ ns) (name_at name (n ∷ ns)) [] ≡ name
-    go true t ih = rw (place-hit name n ns t) (sym (same-is name n t))
-    go false t ih = rw (place-miss name n ns t) (ih (omega (arith, h, place-miss name n ns t)))
-
 -- the kinds one by one
 by-kind : (P : ℕ → Type 0) → P 0 → P 1 → P 2 → P 3 → P 4 → P 5 → P 6 → P 7 → P 8 → P 9 → P 10 → P 11 → (k : ℕ) → k < 12 → P k
 by-kind P a b c d e f g h i j k l zero s = a
@@ -112,12 +102,12 @@ by-kind P a b c d e f g h i j k l (suc (suc (suc (suc (suc (suc (suc (suc (suc (
 by-kind P a b c d e f g h i j k l (suc (suc (suc (suc (suc (suc (suc (suc (suc (suc (suc (suc n)))))))))))) s = absurd (omega arith)
 
 -- no name is another, and none has a tab or a line feed
-named-kind : (k : ℕ) → k < kinds → name_at (instr_name k) instr_names ≡ k
-unfolding name_at same_bytes instr_name instr_names
-named-kind = by-kind (λ k. name_at (instr_name k) instr_names ≡ k) refl refl refl refl refl refl refl refl refl refl refl refl
+named-kind : (k : ℕ) → k < kinds → name_at (instr_name k) instr_names ≡ some k
+unfolding name_at instr_name instr_names
+named-kind = by-kind (λ k. name_at (instr_name k) instr_names ≡ some k) refl refl refl refl refl refl refl refl refl refl refl refl
 
-named-model : (m : ℕ) → m < models → name_at (model_name m) model_names ≡ m
-unfolding name_at same_bytes model_name model_names
+named-model : (m : ℕ) → m < models → name_at (model_name m) model_names ≡ some m
+unfolding name_at model_name model_names
 named-model zero h = refl
 named-model (suc zero) h = refl
 named-model (suc (suc m)) h = absurd (omega arith)
@@ -180,21 +170,18 @@ line_read e h =
     let name = instr_name e.kind in
     let l = name ++ tabbed (map decimal e.fields) in
     let p : parts l ≡ name ∷ map decimal e.fields = parts-tabbed name (map decimal e.fields) (letters-no-tab name (letters e.kind h.known)) (decimals-no-tab e.fields) in
-    rw (body_ended l) (rw p (rw (named-kind e.kind h.known) (is-entry e.kind (map decimal e.fields) e.fields h.known (rw (← h.used) (fields-written e.fields h.small)))))
+    rw (body_ended l) (rw p (rw (named-kind e.kind h.known) (is-entry e.kind (map decimal e.fields) e.fields (rw (← h.used) (fields-written e.fields h.small)))))
 
 -- what is read as an instruction is what is written of it
 parts-written : (k : List ℕ) (ps : List (List ℕ)) (e : Entry) → joined ps ≡ k → read_parts ps ≡ some e → Proper e × (k ≡ instr_name e.kind ++ tabbed (map decimal e.fields))
-unfolding read_parts instr_name tabbed
-parts-written k [] e j q = absurd (not_some q)
+unfolding instr_name instr_names
+parts-written k [] e j q = absurd (parts-some e q)
 parts-written k (name ∷ ps) e j q =
-    let kind = name_at name instr_names in
-    let is : IsEntry kind ps e = entry-is kind ps e q in
-    let n : instr_name kind ≡ name = place_is name instr_names is.known in
-    let w = written-fields (length (fields_of kind)) ps e.fields is.fields in
-    let u : length e.fields ≡ length (fields_of e.kind) = rw is.same (fields-length (length (fields_of kind)) ps e.fields is.fields) in (
-      record { known = rw is.same is.known; used = u; small = w.1 },
-      sym j ∙ ap (λ (x : List ℕ). x ++ tabbed ps) (sym n ∙ ap instr_name (sym is.same)) ∙ ap (λ (x : List (List ℕ)). instr_name e.kind ++ tabbed x) w.0,
-    )
+    let is = parts-are name ps e q in
+    let n : Named name instr_names e.kind = named name instr_names e.kind is.known in
+    let w = written-fields (length (fields_of e.kind)) ps e.fields is.fields in
+    let u : length e.fields ≡ length (fields_of e.kind) = fields-length (length (fields_of e.kind)) ps e.fields is.fields in
+    (record { known = n.below; used = u; small = w.1 }, sym j ∙ ap (λ (x : List ℕ). x ++ tabbed ps) (sym n.is) ∙ ap (λ (x : List (List ℕ)). instr_name e.kind ++ tabbed x) w.0)
 
 pub read-line : (l : List ℕ) (e : Entry) → read_line l ≡ some e → Proper e × (l ≡ line_text e)
 unfolding read_line bind line_text
@@ -208,20 +195,16 @@ read-line l e q = go (body l) refl q
 
 -- the same of a model
 pub model-read : (m : ℕ) → m < models → read_model (model_text m) ≡ some m
-unfolding read_model bind model_text model_named
-model-read m h = rw (body_ended (model_name m)) (rw (named-model m h, lt-true m models h))
+unfolding read_model bind model_text
+model-read m h = rw (body_ended (model_name m)) (named-model m h)
 
 pub read-model : (l : List ℕ) (m : ℕ) → read_model l ≡ some m → (m < models) × (l ≡ model_text m)
-unfolding read_model bind model_text model_named model_name
+unfolding read_model bind model_text model_name model_names
 read-model l m q = go (body l) refl q
   where
-    named : (k : List ℕ) (b : Bool) → ltb (name_at k model_names) models ≡ b → cond b (some (name_at k model_names)) none ≡ some m → (m < models) × (k ≡ model_name m)
-    named k true t e = let p : name_at k model_names ≡ m = cc in let h : name_at k model_names < models = true-lt (name_at k model_names) models t in (rw (← p) h, sym (place_is k model_names h) ∙ ap model_name p)
-    named k false t e = absurd (not_some e)
-
-    go : (o : Option (List ℕ)) → body l ≡ o → bind o model_named ≡ some m → (m < models) × (l ≡ model_text m)
+    go : (o : Option (List ℕ)) → body l ≡ o → bind o (λ name. name_at name model_names) ≡ some m → (m < models) × (l ≡ model_text m)
     go none t q = absurd (not_some q)
-    go (some k) t q = let w = named k (ltb (name_at k model_names) models) refl q in (w.0, body_is l k t ∙ ap (λ (x : List ℕ). x ++ (feed ∷ [])) w.1)
+    go (some k) t q = let w : Named k model_names m = named k model_names m q in (w.below, body_is l k t ∙ ap (λ (x : List ℕ). x ++ (feed ∷ [])) (sym w.is))
 
 -- a line's bytes before its line feed hold none
 tabbed-no-feed : (fs : List ℕ) → NoFeed (tabbed (map decimal fs))

@@ -1,18 +1,20 @@
 -- What the reader answers and leaves in the lent table, for every text and room.
-use Rattle.std.specs.Prelude.{◌≡◌, Bool, cond, ◌||◌, ℕ, ◌/◌, List, length, ltb}
+use Rattle.std.specs.Prelude.{◌≡◌, Bool, cond, ◌||◌, ℕ, ◌/◌, List, length, ltb, Result, Ok, Err}
 use Rattle.thread.specs.declared.Refusal.{Refusal}
 use Rattle.thread.specs.declared.Refusal.TheVariants as R
 use Rattle.thread.specs.Sizes.{most_lines, line_width}
 use Rattle.thread.specs.Numbers.{zeros, filled}
 use Rattle.thread.specs.Refusal.{number_of, place_of}
-use Rattle.text.specs.declared.Reading.{Reading}
-use Rattle.text.specs.declared.Reading.TheVariants as G
 use Rattle.text.specs.Written.{Text, table_of}
 use Rattle.text.specs.Reading.{Judgement, bad_line, whole, text_lines, read_text}
 
 -- "text over 4,096 bytes"
 abbrev pub most_bytes : ℕ
 most_bytes = 4096
+
+-- model and line count, or why there are none
+abbrev pub Reading : Type 0
+Reading = Result (ℕ × ℕ) Refusal
 
 -- an answer, and what the lent table holds afterwards
 pub record ReadResult : Type 0 where
@@ -21,12 +23,12 @@ pub record ReadResult : Type 0 where
 
 -- "A refusal zeroes every table lent for writing"
 unfoldable pub refused : ℕ → Refusal → ReadResult
-refused room r = record { answer = G.Refused r; table = zeros room }
+refused room r = record { answer = Err r; table = zeros room }
 
 -- "Accepted tables hold their contents followed by zeros to the end of the lent room"
 unfoldable pub accepted : ℕ → Text → ReadResult
 unfolding filled table_of
-accepted room t = record { answer = G.Read t.model (length t.lines); table = filled room (table_of t.lines) }
+accepted room t = record { answer = Ok (t.model, length t.lines); table = filled room (table_of t.lines) }
 
 -- "more lines after the model line than 64 or than the lent table holds"
 abbrev pub too_many : ℕ → ℕ → Bool
@@ -61,5 +63,5 @@ pub record ReadAnswer : Type 0 where
 
 unfoldable pub read_answer : Reading → ReadAnswer
 unfolding number_of place_of
-read_answer (G.Read model lines) = record { number = 0; place = 0; model = model; lines = lines }
-read_answer (G.Refused r) = record { number = number_of r; place = place_of r; model = 0; lines = 0 }
+read_answer (Ok (model, lines)) = record { number = 0; place = 0; model = model; lines = lines }
+read_answer (Err r) = record { number = number_of r; place = place_of r; model = 0; lines = 0 }

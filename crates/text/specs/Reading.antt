@@ -1,10 +1,12 @@
 -- A text read: cut into its lines, each line into its parts, and each part taken for a name or a number.
 use Rattle.std.specs.Prelude.{Bool, true, false, cond, ℕ, zero, suc, List, [], ◌∷◌, length, eqb, ltb}
+use Rattle.std.specs.List.{position_or_len}
+use Rattle.std.specs.Str.{bytes_eq}
 use Rattle.std.proofs.Math.Option.{Option, none, some, map, bind}
 use Rattle.thread.specs.Table.{fields_of}
 use Rattle.thread.specs.Names.{instr_names, model_names}
 use Rattle.decimal.specs.Decimal.{read_number}
-use Rattle.text.specs.Written.{Entry, Text, tab, feed, kinds, models}
+use Rattle.text.specs.Written.{Entry, Text, tab, feed}
 
 -- the lines of a text, each with its line feed, which the last may lack
 unfoldable pub line_onto : Bool → ℕ → List (List ℕ) → List (List ℕ)
@@ -34,18 +36,9 @@ unfolding part_onto
 parts [] = [] ∷ []
 parts (b ∷ l) = part_onto (eqb b tab) b (parts l)
 
--- "Instruction and operation names are fixed byte strings, compared when text is read"
-unfoldable pub same_bytes : List ℕ → List ℕ → Bool
-same_bytes [] [] = true
-same_bytes [] (b ∷ k) = false
-same_bytes (a ∷ l) [] = false
-same_bytes (a ∷ l) (b ∷ k) = cond (eqb a b) (same_bytes l k) false
-
--- the place of a name among names; how many they are if it is none of them
-unfoldable pub name_at : List ℕ → List (List ℕ) → ℕ
-unfolding same_bytes
-name_at name [] = 0
-name_at name (n ∷ ns) = cond (same_bytes name n) 0 (suc (name_at name ns))
+-- "Instruction and operation names are fixed byte strings, compared when text is read"; the number of a name among names, if it is one of them
+unfoldable pub name_at : List ℕ → List (List ℕ) → Option ℕ
+name_at name names = let k : ℕ = position_or_len (λ n. bytes_eq n name) names in cond (ltb k (length names)) (some k) none
 
 -- exactly n numbers
 unfoldable pub field_then : Option ℕ → Option (List ℕ) → Option (List ℕ)
@@ -65,24 +58,20 @@ entry kind fields = record { kind = kind; fields = fields }
 
 unfoldable pub read_entry : ℕ → List (List ℕ) → Option Entry
 unfolding fields_of read_fields
-read_entry kind ps = cond (ltb kind kinds) (map (entry kind) (read_fields (length (fields_of kind)) ps)) none
+read_entry kind ps = map (entry kind) (read_fields (length (fields_of kind)) ps)
 
 unfoldable pub read_parts : List (List ℕ) → Option Entry
-unfolding read_entry name_at instr_names
+unfolding bind read_entry name_at instr_names
 read_parts [] = none
-read_parts (name ∷ ps) = read_entry (name_at name instr_names) ps
+read_parts (name ∷ ps) = bind (name_at name instr_names) (λ kind. read_entry kind ps)
 
 unfoldable pub read_line : List ℕ → Option Entry
 unfolding bind body parts read_parts
 read_line l = bind (body l) (λ k. read_parts (parts k))
 
-unfoldable pub model_named : List ℕ → Option ℕ
-unfolding name_at model_names
-model_named name = cond (ltb (name_at name model_names) models) (some (name_at name model_names)) none
-
 unfoldable pub read_model : List ℕ → Option ℕ
-unfolding bind body model_named
-read_model l = bind (body l) model_named
+unfolding bind body name_at model_names
+read_model l = bind (body l) (λ name. name_at name model_names)
 
 -- all of it read, or the number of the first line that the text form forbids
 pub data Judgement (A : Type 0) : Type 0 where

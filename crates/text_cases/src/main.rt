@@ -2,7 +2,6 @@
 #![tactic(auto)]
 
 use std::io;
-use text::Reading;
 use thread::Refusal;
 
 fn show(rt: &impl Print, number: u64, place: u64, model: u64, lines: u64) -> io::Result<()> {
@@ -22,8 +21,8 @@ fn show_refusal(rt: &impl Print, why: Refusal) -> io::Result<()> {
 fn case(rt: &impl Print, bytes: &[u8]) -> io::Result<()> {
     let mut table: [u32; 63] = [9; 63];
     match text::read(bytes, &mut table) {
-        Reading::Read(model, lines) => show(rt, 0, 0, model as u64, lines as u64),
-        Reading::Refused(why) => show_refusal(rt, why),
+        Ok((model, lines)) => show(rt, 0, 0, model as u64, lines as u64),
+        Err(why) => show_refusal(rt, why),
     }
 }
 

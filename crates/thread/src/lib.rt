@@ -1,7 +1,7 @@
 // What a thread is made of: its lines and instructions, the operations on the edges of its graph, and the reasons to refuse it.
 #![tactic(auto)]
 
-ghost use Rattle.std.specs.Prelude.{◌≡◌, ◌-◌, ◌++◌, length, take};
+ghost use Rattle.std.specs.Prelude.{◌≡◌, ◌-◌, ◌++◌, length, set, take};
 ghost use Rattle.thread.specs.Numbers.{◌!◌, zeros};
 ghost use Rattle.thread.specs.Operation.{op_numbers};
 ghost use Rattle.thread.specs.Refusal.{number_of, place_of};
@@ -23,21 +23,34 @@ pub const VARIABLES: u32 = 16;
 // at most 16 store lines in a table
 pub const MOST_STORES: u32 = 16;
 
+// at most 16 waiting stores in a node, 4,096 nodes in a graph
+pub const MOST_WAITING: usize = 16;
+
+pub const MOST_NODES: usize = 4096;
+
+// a node record is 18 numbers, an edge record 7
+pub const NODE_WIDTH: usize = 18;
+
+pub const EDGE_WIDTH: usize = 7;
+
+// 1 to 4 threads run
+pub const MOST_THREADS: u32 = 4;
+
 // a line of a thread, by its number
-#[derive(Clone, Copy)]
+#[derive(Clone, Copy, Debug, PartialEq, Eq)]
 pub struct Line(pub u32);
 
 // a node of a thread's graph, by its number
-#[derive(Clone, Copy)]
+#[derive(Clone, Copy, Debug, PartialEq, Eq)]
 pub struct Node(pub u32);
 
-#[derive(Clone, Copy)]
+#[derive(Clone, Copy, Debug, PartialEq, Eq)]
 pub enum Model {
     Tso,
     Pso,
 }
 
-#[derive(Clone, Copy)]
+#[derive(Clone, Copy, Debug, PartialEq, Eq)]
 pub enum Instr {
     Set(u32, u32),
     Copy(u32, u32),
@@ -53,7 +66,7 @@ pub enum Instr {
     Return,
 }
 
-#[derive(Clone, Copy)]
+#[derive(Clone, Copy, Debug, PartialEq, Eq)]
 pub enum Op {
     Set(u32, u32),
     Copy(u32, u32),
@@ -71,7 +84,7 @@ pub enum Op {
 }
 
 // Why an input is refused, by the paper's names, with what fixes the place.
-#[derive(Clone, Copy)]
+#[derive(Clone, Copy, Debug, PartialEq, Eq)]
 pub enum Refusal {
     BadText(u64),
     BadModel,
@@ -94,17 +107,24 @@ pub enum Refusal {
 pub fn number(table: &[u32], at: usize) -> u32
     ensures { result ≡ table.now ! at }
 {
-    if at < table.len() { table[at] } else { 0 }
+    table.get(at).copied().unwrap_or(0)
+}
+
+// `v` at a place of a lent list; past the end there is no place
+pub fn write(values: &mut [u32], at: usize, v: u32)
+    ensures { values.new ≡ set values.old at v }
+{
+    if at < values.len() {
+        values[at] = v;
+    }
 }
 
 // zeros from a place of a lent room on
 pub fn clear_from(room: &mut [u32], from: usize)
     ensures { room.new ≡ take from room.old ++ zeros (length room.old - from) }
 {
-    let mut i = from;
-    while i < room.len() {
-        room[i] = 0;
-        i += 1;
+    if from < room.len() {
+        room[from..].fill(0);
     }
 }
 
@@ -112,7 +132,7 @@ pub fn clear_from(room: &mut [u32], from: usize)
 pub fn clear(room: &mut [u32])
     ensures { room.new ≡ zeros (length room.old) }
 {
-    clear_from(room, 0);
+    room.fill(0);
 }
 
 // the twelve kinds, 0 to 11, with their fields
@@ -137,6 +157,7 @@ pub fn instr_of(kind: u32, a: u32, b: u32, c: u32, d: u32) -> Instr
 }
 
 // the instruction at a line of a table
+#[tactic(auto, unfolding(crate::specs::Table::instr_at))]
 pub fn instr_at(table: &[u32], line: Line) -> Instr
     ensures { result ≡ instr_at table.now line }
 {
@@ -155,11 +176,7 @@ pub fn instr_at(table: &[u32], line: Line) -> Instr
 pub fn is_store(instr: Instr) -> bool
     ensures { result ≡ is_store instr }
 {
-    match instr {
-        Instr::StoreR(_, _) => true,
-        Instr::StoreC(_, _) => true,
-        _ => false,
-    }
+    matches!(instr, Instr::StoreR(_, _) | Instr::StoreC(_, _))
 }
 
 // the sum modulo 2^32
@@ -167,7 +184,7 @@ pub fn is_store(instr: Instr) -> bool
 pub fn add32(a: u32, b: u32) -> u32
     ensures { result ≡ Word.add32 a b }
 {
-    std::num::wrapping_add_u32(a, b)
+    a.wrapping_add(b)
 }
 
 // the difference modulo 2^32
@@ -175,7 +192,7 @@ pub fn add32(a: u32, b: u32) -> u32
 pub fn sub32(a: u32, b: u32) -> u32
     ensures { result ≡ Word.sub32 a b }
 {
-    std::num::wrapping_sub_u32(a, b)
+    a.wrapping_sub(b)
 }
 
 // an operation's five numbers
@@ -200,50 +217,44 @@ pub fn op_numbers(op: Op) -> [u32; 5]
     }
 }
 
-// a refusal's number
-#[tactic(auto, unfolding(crate::specs::Refusal::number_of))]
-pub fn number_of(refusal: Refusal) -> u64
-    ensures { result ≡ number_of refusal }
-{
-    match refusal {
-        Refusal::BadText(_) => 1,
-        Refusal::BadModel => 2,
-        Refusal::NoLines => 3,
-        Refusal::TooManyLines => 4,
-        Refusal::RaggedTable => 5,
-        Refusal::BadField(_) => 6,
-        Refusal::TooManyStores(_) => 7,
-        Refusal::BadTarget(_) => 8,
-        Refusal::NoNext(_) => 9,
-        Refusal::UnfencedLoop(_) => 10,
-        Refusal::PendingFull => 11,
-        Refusal::TooManyNodes => 12,
-        Refusal::TooManyEdges => 13,
-        Refusal::BadThreads => 14,
-        Refusal::NoSuchStep(_) => 15,
+impl Refusal {
+    // a refusal's number
+    #[tactic(auto, unfolding(crate::specs::Refusal::number_of))]
+    pub fn number(self) -> u64
+        ensures { result ≡ number_of self }
+    {
+        match self {
+            Refusal::BadText(_) => 1,
+            Refusal::BadModel => 2,
+            Refusal::NoLines => 3,
+            Refusal::TooManyLines => 4,
+            Refusal::RaggedTable => 5,
+            Refusal::BadField(_) => 6,
+            Refusal::TooManyStores(_) => 7,
+            Refusal::BadTarget(_) => 8,
+            Refusal::NoNext(_) => 9,
+            Refusal::UnfencedLoop(_) => 10,
+            Refusal::PendingFull => 11,
+            Refusal::TooManyNodes => 12,
+            Refusal::TooManyEdges => 13,
+            Refusal::BadThreads => 14,
+            Refusal::NoSuchStep(_) => 15,
+        }
     }
-}
 
-// a refusal's place
-#[tactic(auto, unfolding(crate::specs::Refusal::place_of))]
-pub fn place_of(refusal: Refusal) -> u64
-    ensures { result ≡ place_of refusal }
-{
-    match refusal {
-        Refusal::BadText(n) => n,
-        Refusal::BadField(l) => l.0 as u64,
-        Refusal::TooManyStores(l) => l.0 as u64,
-        Refusal::BadTarget(l) => l.0 as u64,
-        Refusal::NoNext(l) => l.0 as u64,
-        Refusal::UnfencedLoop(l) => l.0 as u64,
-        Refusal::NoSuchStep(i) => i,
-        Refusal::BadModel => 0,
-        Refusal::NoLines => 0,
-        Refusal::TooManyLines => 0,
-        Refusal::RaggedTable => 0,
-        Refusal::PendingFull => 0,
-        Refusal::TooManyNodes => 0,
-        Refusal::TooManyEdges => 0,
-        Refusal::BadThreads => 0,
+    // a refusal's place
+    #[tactic(auto, unfolding(crate::specs::Refusal::place_of))]
+    pub fn place(self) -> u64
+        ensures { result ≡ place_of self }
+    {
+        match self {
+            Refusal::BadText(n) | Refusal::NoSuchStep(n) => n,
+            Refusal::BadField(l)
+            | Refusal::TooManyStores(l)
+            | Refusal::BadTarget(l)
+            | Refusal::NoNext(l)
+            | Refusal::UnfencedLoop(l) => l.0 as u64,
+            _ => 0,
+        }
     }
 }

@@ -1,35 +1,35 @@
 -- `digits` meets its contract: what is read of all digits is what is read of those left, behind the number so far. Assumes nothing.
 use mathlib.Core.Path.{sym, ap, ◌∙◌}
 use native.Mathlib.Omega.{arith}
-use Rattle.decimal.specs.Number.{number_or}
+use Rattle.lists.specs.Options.{option_of}
 use Rattle.decimal.proofs.Reading.{other_at, digit_at, large-at, end-at}
 use Rattle.decimal.proofs.digits.Goals as goal
 
-pub returns-then-d-lt48 : goal.returns-then-d-lt48
-unfolding number_or
-returns-then-d-lt48 c =
-    let l = c.args.bytes.now in
-    ap number_or (sym (other_at l c.loop-i.i c.loop-i.value c.loop-i-test.true (λ d. omega (arith, d.0))) ∙ c.loop-i.invariant.2)
+pub returns-then-not-is_ascii_digit : goal.returns-then-not-is_ascii_digit
+unfolding option_of
+returns-then-not-is_ascii_digit c =
+    ap option_of (sym (c.loop-d.invariant.1 ∙ other_at c.args.bytes.now c.loop-d.d-index c.loop-d.value c.loop-d-test.true (sym c.if-not-is_ascii_digit.ensures.value)))
 
-pub returns-then-d-gt57 : goal.returns-then-d-gt57
-unfolding number_or
-returns-then-d-gt57 c =
-    let l = c.args.bytes.now in
-    ap number_or (sym (other_at l c.loop-i.i c.loop-i.value c.loop-i-test.true (λ d. omega (arith, d.1))) ∙ c.loop-i.invariant.2)
+pub returns-in_err-checked_mul : goal.returns-in_err-checked_mul
+unfolding option_of
+returns-in_err-checked_mul c =
+    c.from_residual.ensures
+    ∙ ap option_of (sym (c.loop-d.invariant.1 ∙ large-at c.args.bytes.now c.loop-d.d-index c.loop-d.value c.loop-d-test.true (sym c.if-not-is_ascii_digit.ensures.value) (omega (arith, c.in_err-checked_mul.ensures))))
 
-pub returns-then-value-gt-MOST : goal.returns-then-value-gt-MOST
-unfolding number_or
-returns-then-value-gt-MOST c =
-    let l = c.args.bytes.now in
-    ap number_or (sym (large-at l c.loop-i.i c.loop-i.value c.loop-i-test.true (c.if-d-lt48.false, omega arith) c.if-value-gt-MOST.true) ∙ c.loop-i.invariant.2)
+pub returns-in_err-value : goal.returns-in_err-value
+unfolding option_of
+returns-in_err-value c =
+    c.from_residual-in_err-value.ensures
+    ∙ ap option_of (sym (c.loop-d.invariant.1 ∙ large-at c.args.bytes.now c.loop-d.d-index c.loop-d.value c.loop-d-test.true (sym c.if-not-is_ascii_digit.ensures.value) (omega (arith, c.in_err-value.ensures, c.in_ok-checked_mul.ensures))))
 
-pub loop-i-preserved : goal.loop-i-preserved
-loop-i-preserved c =
-    let l = c.args.bytes.now in
-    (omega arith, c.if-value-gt-MOST.false, digit_at l c.loop-i.i c.loop-i.value c.loop-i-test.true (c.if-d-lt48.false, omega arith) ∙ c.loop-i.invariant.2)
+pub loop-d-preserved : goal.loop-d-preserved
+loop-d-preserved c =
+    let m = c.in_ok-checked_mul.ensures in
+    let a = c.in_ok-value.ensures in
+    let e = digit_at c.args.bytes.now c.loop-d.d-index c.loop-d.value c.loop-d-test.true (sym c.if-not-is_ascii_digit.ensures.value) in
+    (omega arith, rw (a.1, m.1) (c.loop-d.invariant.1 ∙ e))
 
 pub returns : goal.returns
-unfolding number_or
+unfolding option_of
 returns c =
-    let l = c.args.bytes.now in
-    ap number_or (sym (end-at l c.loop-i.i c.loop-i.value c.loop-i-test.false c.loop-i.invariant.1) ∙ c.loop-i.invariant.2)
+    ap option_of (sym (c.loop-d.invariant.1 ∙ end-at c.args.bytes.now c.loop-d.d-index c.loop-d.value c.loop-d-test.false c.loop-d.invariant.0))

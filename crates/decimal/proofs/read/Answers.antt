@@ -1,24 +1,19 @@
--- `read` meets its contract: no bytes, one byte, a leading zero, and digits. Assumes nothing.
+-- `read` meets its contract: no bytes, a leading zero, and digits. Assumes nothing.
 use mathlib.Core.Path.{sym, ap, ◌∙◌}
-use native.Mathlib.Omega.{arith}
-use Rattle.decimal.specs.Number.{number_or}
-use Rattle.decimal.proofs.Reading.{read_none, read_one, read-zero, read_more}
+use Rattle.lists.specs.Options.{option_of}
+use Rattle.decimal.proofs.Reading.{read_none, read-zero, read_rest}
 use Rattle.decimal.proofs.read.Goals as goal
 
-pub returns-then-bytes-eq0 : goal.returns-then-bytes-eq0
-unfolding number_or
-returns-then-bytes-eq0 c =
-    ap number_or (sym (read_none c.args.bytes.now c.if-bytes-eq0.true))
+pub returns-then-is_empty : goal.returns-then-is_empty
+unfolding option_of
+returns-then-is_empty c =
+    ap option_of (sym (read_none c.args.bytes.now (sym c.if-is_empty.ensures)))
 
-pub returns-then-bytes-eq1 : goal.returns-then-bytes-eq1
-returns-then-bytes-eq1 c =
-    c.digits.ensures ∙ ap number_or (sym (read_one c.args.bytes.now c.if-bytes-eq1.true))
-
-pub returns-then-bytes-eq48 : goal.returns-then-bytes-eq48
-unfolding number_or
-returns-then-bytes-eq48 c =
-    ap number_or (sym (read-zero c.args.bytes.now (omega (arith, c.if-bytes-eq1.false, c.if-bytes-eq0.false)) c.if-bytes-eq48.true))
+pub returns-then-bytes-gt1 : goal.returns-then-bytes-gt1
+unfolding option_of
+returns-then-bytes-gt1 c =
+    ap option_of (sym (read-zero c.args.bytes.now c.if-bytes-gt1.true c.if-bytes-eq48.true))
 
 pub returns : goal.returns
 returns c =
-    c.digits-2.ensures ∙ ap number_or (sym (read_more c.args.bytes.now (omega (arith, c.if-bytes-eq1.false, c.if-bytes-eq0.false)) c.if-bytes-eq48.false))
+    c.digits.ensures ∙ ap option_of (sym (read_rest c.args.bytes.now (sym c.if-is_empty.ensures) c.else-bytes-eq48.either))

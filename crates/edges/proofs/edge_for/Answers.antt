@@ -1,31 +1,34 @@
 -- `edges::edge_for` meets its contract.
 use mathlib.Core.Path.{ap, ◌∙◌}
-use Prim.Native.Nat.{zero-le}
+use Prim.Native.Nat.{◌<◌}
 use native.Mathlib.Omega.{arith}
+use Rattle.lists.specs.Options.{option_of}
 use Rattle.graphs.specs.Records.{records_in}
-use Rattle.edges.specs.Answers.{taken}
+use Rattle.edges.proofs.Chunks.{there-read}
 use Rattle.edges.proofs.Scan.{scan-all, scan-on, scan-found, scan-end}
 use Rattle.edges.proofs.edge_for.Goals as goal
 
-pub loop-k-init : goal.loop-k-init
-loop-k-init c =
-    let a = c.args in (zero-le, scan-all a.table.now a.node a.choice a.registers)
+pub loop-record-init : goal.loop-record-init
+loop-record-init c =
+    let a = c.args in scan-all a.table.now a.node a.choice a.registers
 
-pub returns-in-Along : goal.returns-in-Along
-returns-in-Along c =
+pub returns-in-Some : goal.returns-in-Some
+returns-in-Some c =
     let a = c.args in
-    scan-found a.table.now a.node a.choice a.registers c.loop-k.k (records_in 7 a.table.now) c.fits.result c.loop-k-test.true c.fits.ensures c.in-Along.e c.in-Along.is
-    ∙ ap taken c.loop-k.invariant.1
+    let k = c.loop-record.record-index in
+    let h : k < records_in 7 a.table.now = omega (arith, c.records-record-items.ensures.count, c.loop-record-test.true) in
+    let f = there-read a.table.now c.records-record-items.result.now c.records-record-items.ensures.records k h a.node a.choice a.registers c.fits.result c.fits.ensures in
+    scan-found a.table.now a.node a.choice a.registers k (records_in 7 a.table.now) c.fits.result h f c.in-Some.e c.in-Some.is ∙ ap option_of c.loop-record.invariant
 
-pub loop-k-preserved : goal.loop-k-preserved
-loop-k-preserved c =
-    let a = c.args in (
-      omega arith,
-      scan-on a.table.now a.node a.choice a.registers c.loop-k.k (records_in 7 a.table.now) c.fits.result c.loop-k-test.true c.fits.ensures c.in_default.is
-          ∙ c.loop-k.invariant.1,
-    )
+pub loop-record-preserved : goal.loop-record-preserved
+loop-record-preserved c =
+    let a = c.args in
+    let k = c.loop-record.record-index in
+    let h : k < records_in 7 a.table.now = omega (arith, c.records-record-items.ensures.count, c.loop-record-test.true) in
+    let f = there-read a.table.now c.records-record-items.result.now c.records-record-items.ensures.records k h a.node a.choice a.registers c.fits.result c.fits.ensures in
+    scan-on a.table.now a.node a.choice a.registers k (records_in 7 a.table.now) c.fits.result h f c.in_default.is ∙ c.loop-record.invariant
 
 pub returns : goal.returns
 returns c =
     let a = c.args in
-    scan-end a.table.now a.node a.choice a.registers c.loop-k.k (records_in 7 a.table.now) c.loop-k-test.false ∙ ap taken c.loop-k.invariant.1
+    scan-end a.table.now a.node a.choice a.registers c.loop-record.record-index (records_in 7 a.table.now) (omega (arith, c.records-record-items.ensures.count, c.loop-record-test.false)) ∙ ap option_of c.loop-record.invariant

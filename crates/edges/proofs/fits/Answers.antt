@@ -1,23 +1,24 @@
 -- `edges::fits` meets its contract.
+use mathlib.Core.Path.{◌∙◌}
 use Rattle.edges.proofs.Laws.{other-node, no_edge, other-choice, fits}
 use Rattle.edges.proofs.fits.Goals as goal
 
-pub returns-then-table-i : goal.returns-then-table-i
-returns-then-table-i c =
+pub returns-then-record-node : goal.returns-then-record-node
+returns-then-record-node c =
     let a = c.args in
-    other-node a.table.now a.k a.node a.choice a.registers.now c.if-table-i.true
+    other-node a.record.now 0 a.node a.choice a.registers.now c.if-record-node.true
 
-pub returns-in_default : goal.returns-in_default
-returns-in_default c =
+pub returns-in_err-e : goal.returns-in_err-e
+returns-in_err-e c =
     let a = c.args in
-    no_edge a.table.now a.k a.node a.choice a.registers.now c.op_of.result c.op_of.ensures c.in_default.is
+    c.from_residual.ensures ∙ no_edge a.record.now 0 a.node a.choice a.registers.now c.edge_of.result c.edge_of.ensures c.in_err-e.was
 
 pub returns-then-serves : goal.returns-then-serves
 returns-then-serves c =
     let a = c.args in
-    fits a.table.now a.k a.node a.choice a.registers.now c.op_of.result c.op_of.ensures c.in-Is.op c.serves.result c.in-Is.is c.if-table-i.false c.serves.ensures c.if-serves.true
+    fits a.record.now 0 a.node a.choice a.registers.now c.edge_of.result c.edge_of.ensures c.in_ok-e.e c.serves.result c.in_ok-e.was c.if-record-node.false c.serves.ensures c.if-serves.true
 
-pub returns : goal.returns
-returns c =
+pub returns-else-serves : goal.returns-else-serves
+returns-else-serves c =
     let a = c.args in
-    other-choice a.table.now a.k a.node a.choice a.registers.now c.op_of.result c.op_of.ensures c.in-Is.op c.serves.result c.in-Is.is c.if-table-i.false c.serves.ensures c.if-serves.false
+    other-choice a.record.now 0 a.node a.choice a.registers.now c.edge_of.result c.edge_of.ensures c.in_ok-e.e c.serves.result c.in_ok-e.was c.if-record-node.false c.serves.ensures c.if-serves.false

@@ -1,17 +1,16 @@
 -- `held::edge_of` meets its contract.
-use Rattle.held.proofs.Records.{past_end, no_edge, edge-there}
+use mathlib.Core.Path.{◌∙◌}
+use native.Mathlib.Omega.{arith}
+use Rattle.held.proofs.Records.{past_end, edge-there}
 use Rattle.held.proofs.edge_of.Goals as goal
 
-pub returns-then-table-k : goal.returns-then-table-k
-returns-then-table-k c =
-    let a = c.args in past_end a.table.now a.k c.if-table-k.true
-
-pub returns-in_default : goal.returns-in_default
-returns-in_default c =
+pub returns-in_err-record : goal.returns-in_err-record
+returns-in_err-record c =
     let a = c.args in
-    no_edge a.table.now a.k c.if-table-k.false c.op_of.result c.op_of.ensures c.in_default.is
+    c.from_residual.ensures ∙ past_end a.table.now a.k (omega (arith, c.records.ensures.count, c.in_err-record.ensures.lookup.3))
 
 pub returns : goal.returns
 returns c =
     let a = c.args in
-    edge-there a.table.now a.k c.if-table-k.false c.op_of.result c.op_of.ensures c.in-Is.op c.in-Is.is
+    let found = c.in_ok-record.ensures.lookup in
+    edge-there a.table.now a.k c.records.result.now c.records.ensures.records c.records.ensures.count found.3.0 c.in_ok-record.record.now found.1 c.edge_of.result c.edge_of.ensures

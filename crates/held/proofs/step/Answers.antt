@@ -1,11 +1,26 @@
 -- `held::step` meets its contract: an edge found and then gone along is the step.
-use Rattle.std.proofs.Common.{ap}
-use Rattle.held.specs.declared.Next.{Next}
-use Rattle.held.proofs.Laws.{step-done}
+use Rattle.std.proofs.Common.{sym, ap, ◌∙◌}
+use Rattle.std.specs.Prelude.{Option, unwrap_or, is_some}
+use Rattle.held.specs.declared.Machine.{Machine}
+use Rattle.held.proofs.Laws.{step-absent, step-done}
 use Rattle.held.proofs.step.Goals as goal
+
+pub returns-in_default : goal.returns-in_default
+returns-in_default c =
+    let a = c.args in
+    let e = step-absent a.m.now a.t a.edges.now a.choice c.own_of.result c.own_of.ensures c.in_default.is in
+    record { machine = ap (λ (s : Option Machine). unwrap_or s a.m.now) e; moves = ap (λ (s : Option Machine). is_some s) e }
+
+pub returns-in_default-moved : goal.returns-in_default-moved
+returns-in_default-moved c =
+    let a = c.args in
+    let e = sym c.in_default-moved.is
+    ∙ step-done a.m.now a.t a.edges.now a.choice c.own_of.result c.own_of.ensures c.in-Some.own c.edge_in-found.result c.moved.result c.in-Some.is c.edge_in-found.ensures c.moved.ensures in
+    record { machine = ap (λ (s : Option Machine). unwrap_or s a.m.now) e; moves = ap (λ (s : Option Machine). is_some s) e }
 
 pub returns : goal.returns
 returns c =
     let a = c.args in
-    let e = step-done a.m.now a.t a.edges.now a.choice c.node_of-n.result c.registers_of-registers.result c.edge_in-f.result c.moved-s.result c.node_of-n.ensures c.registers_of-registers.ensures c.edge_in-f.ensures c.moved-s.ensures in
-    (ap (λ (n : Next). n.m) e, ap (λ (n : Next). n.ok) e)
+    let e = sym c.in-Some-moved.is
+    ∙ step-done a.m.now a.t a.edges.now a.choice c.own_of.result c.own_of.ensures c.in-Some.own c.edge_in-found.result c.moved.result c.in-Some.is c.edge_in-found.ensures c.moved.ensures in
+    record { machine = ap (λ (s : Option Machine). unwrap_or s a.m.now) e; moves = ap (λ (s : Option Machine). is_some s) e }

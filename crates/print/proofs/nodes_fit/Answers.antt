@@ -1,22 +1,16 @@
--- `nodes_fit` meets its contract: the nodes left fit exactly if all do. Assumes nothing.
-use mathlib.Core.Path.{sym, ◌∙◌}
+-- The search over the nodes' numbers is the test of all of them.
+use mathlib.Core.Path.{refl, ◌∙◌}
 use native.Mathlib.Omega.{arith}
-use Rattle.printed.proofs.Fits.{nodes-more, nodes-no, nodes-end}
+use lib.Dec.{leb}
+use Rattle.std.proofs.Common.{rules, tests}
+use Rattle.std.proofs.lemmas.Iterator.{YieldsList-from_range}
+use Rattle.std.proofs.lemmas.Iterator.Search.{all_from_yields_List}
+use Rattle.thread.specs.Sizes.{most_waiting}
+use Rattle.printed.specs.Graph.{count_of}
+use Rattle.printed.proofs.Fits.{nodes-all}
 use Rattle.print.proofs.nodes_fit.Goals as goal
-
-pub returns-then-number_at-gt-MOST_WAITING : goal.returns-then-number_at-gt-MOST_WAITING
-returns-then-number_at-gt-MOST_WAITING c =
-    let s = c.args in
-    let e = c.number_at.ensures in
-    sym (nodes-no s.table.now c.loop-k.k s.n c.loop-k-test.true (omega arith)) ∙ c.loop-k.invariant
-
-pub loop-k-preserved : goal.loop-k-preserved
-loop-k-preserved c =
-    let s = c.args in
-    let e = c.number_at.ensures in
-    nodes-more s.table.now c.loop-k.k s.n c.loop-k-test.true (omega arith) ∙ c.loop-k.invariant
 
 pub returns : goal.returns
 returns c =
-    let s = c.args in
-    sym (nodes-end s.table.now c.loop-k.k s.n c.loop-k-test.false) ∙ c.loop-k.invariant
+    all_from_yields_List (λ k. leb (count_of c.args.table.now k) most_waiting) _ _ c.all.result c.all.ensures.ran (YieldsList-from_range 0 c.args.n c.args.n refl (omega arith)) (λ x b q k. search (rules, tests))
+    ∙ nodes-all c.args.table.now c.args.n

@@ -12,6 +12,7 @@ pub returns-then-t-threads : goal.returns-then-t-threads
 unfolding state_of
 returns-then-t-threads c =
     let a = c.args in
+    let f = a.flat.now in
     let e : 64 * a.t + 64 - 64 * a.t ≡ 64 = omega arith in
-    let own : c.part-own.result ≡ cut a.registers.now a.t = c.part-own.ensures ∙ part_cut a.registers.now a.t (omega (arith, c.requires.0, c.requires.2)) in
+    let own : c.part-own.result ≡ cut f.registers a.t = c.part-own.ensures ∙ part_cut f.registers a.t (omega (arith, c.requires)) in
     rw (lt-true a.t a.threads c.if-t-threads.true) (rw (own, e) at c.state_at.ensures)

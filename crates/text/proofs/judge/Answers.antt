@@ -1,36 +1,44 @@
--- `judge` meets its contract: the lines so far are good, and the others are judged from here. Assumes nothing.
-use mathlib.Core.Path.{sym, ap, ◌∙◌}
-use Prim.Native.Nat.{◌+◌}
+-- `judge` meets its contract: the lines so far are good, and those ahead are judged. Assumes nothing.
+use mathlib.Core.Path.{sym, ap, ◌≡◌, ◌∙◌}
+use mathlib.Core.Bool.{not}
+use mathlib.Core.List.{List}
+use Prim.Native.Nat.{ℕ, ◌+◌}
 use native.Mathlib.Omega.{arith}
+use lib.ListN.{length, drop, length-drop, length-append}
+use lib.Seq.{take_all}
+use Rattle.std.specs.Option.{is_some}
+use Rattle.std.proofs.Common.{rules, tests}
 use Rattle.text.specs.Written.{feed}
+use Rattle.text.specs.Reading.{text_lines, read_lines}
 use Rattle.text.specs.Steps.{judgement}
-use Rattle.text.proofs.Bytes.{until-le}
-use Rattle.text.proofs.Judging.{bad-line, good-line, judge-more, judge-none, judge-bad}
+use Rattle.text.proofs.Splits.{computes}
+use Rattle.text.proofs.Feeds.{next-line}
+use Rattle.text.proofs.Judging.{next-counts, next-bad, is-bad, is-good, none-left}
 use Rattle.text.proofs.judge.Goals as goal
 
-pub good_line-requires : goal.good_line-requires
-good_line-requires c =
-    (omega (arith, c.until-end.ensures), omega (arith, until-le c.args.text.now feed c.loop-at.at c.loop-at.invariant.0, c.until-end.ensures))
-
-pub returns-then-not-good_line : goal.returns-then-not-good_line
-returns-then-not-good_line c =
+pub loop-line-init : goal.loop-line-init
+loop-line-init c =
     let t = c.args.text.now in
-    let f = sym c.good_line.ensures ∙ c.if-not-good_line.true in
-    sym (judge-bad c.loop-at.count (c.loop-at.count + 2))
-    ∙ ap (judgement c.loop-at.count) (sym (bad-line t c.loop-at.at c.until-end.result c.loop-at.invariant.0 c.until-end.ensures c.loop-at-test.true f (c.loop-at.count + 2)))
-    ∙ c.loop-at.invariant.2
+    let e : c.into_iter-line-iterator.result.rest.now ≡ drop c.args.from t =
+    ap (λ s. s.rest.now) c.into_iter-line-iterator.ensures.into_iter_gives ∙ c.split_inclusive-line-items.ensures.rest ∙ take_all _ (drop c.args.from t) (omega (arith, length-drop c.args.from t)) in
+    (omega (arith, ap length e, length-drop c.args.from t), ap (λ (l : List ℕ). judgement 0 (read_lines 2 (text_lines l))) e)
 
-pub overflow_add-at : goal.overflow_add-at
-overflow_add-at c =
-    let g = good-line c.args.text.now c.loop-at.at c.until-end.result c.loop-at.invariant.0 c.until-end.ensures (sym c.good_line.ensures ∙ c.if-not-good_line.false) in
-    omega (arith, g.within)
+pub returns-then-is_none : goal.returns-then-is_none
+returns-then-is_none c =
+    let k = c.in-Some.ensures.steps in
+    let line = next-line c.loop-line.line-iterator.rest.now c.in-Some.line.now c.next.new.self.rest.now k.0 k.2 k.1.0 k.1.1 (k.1.2 _ (computes feed (λ x b q m. search (rules, tests)))).1 in
+    next-bad c.loop-line.count c.in-Some.line.now (text_lines c.next.new.self.rest.now) (is-bad c.in-Some.line.now (sym (ap is_some c.read_line.ensures) ∙ c.is_none.ensures ∙ ap not c.if-is_none.true))
+    ∙ ap (λ (ls : List (List ℕ)). judgement c.loop-line.count (read_lines (c.loop-line.count + 2) ls)) (sym line) ∙ c.loop-line.invariant.1
 
-pub loop-at-preserved : goal.loop-at-preserved
-loop-at-preserved c =
-    let t = c.args.text.now in
-    let g = good-line t c.loop-at.at c.until-end.result c.loop-at.invariant.0 c.until-end.ensures (sym c.good_line.ensures ∙ c.if-not-good_line.false) in
-    (omega (arith, g.within), omega (arith, c.until-end.ensures), judge-more t c.loop-at.at c.until-end.result c.loop-at.count g ∙ c.loop-at.invariant.2)
+pub loop-line-preserved : goal.loop-line-preserved
+loop-line-preserved c =
+    let k = c.in-Some.ensures.steps in
+    let line = next-line c.loop-line.line-iterator.rest.now c.in-Some.line.now c.next.new.self.rest.now k.0 k.2 k.1.0 k.1.1 (k.1.2 _ (computes feed (λ x b q m. search (rules, tests)))).1 in
+    let g = is-good c.in-Some.line.now (sym (ap is_some c.read_line.ensures) ∙ c.is_none.ensures ∙ ap not c.if-is_none.false) in (
+      omega (arith, c.loop-line.invariant.0, k.2, k.1.1, ap length k.0, length-append c.in-Some.line.now c.next.new.self.rest.now),
+      next-counts c.loop-line.count c.in-Some.line.now (text_lines c.next.new.self.rest.now) g.0 g.1
+          ∙ ap (λ (ls : List (List ℕ)). judgement c.loop-line.count (read_lines (c.loop-line.count + 2) ls)) (sym line) ∙ c.loop-line.invariant.1,
+    )
 
 pub returns : goal.returns
-returns c =
-    sym (judge-none c.args.text.now c.loop-at.at c.loop-at.count (c.loop-at.count + 2) c.loop-at-test.false) ∙ c.loop-at.invariant.2
+returns c = none-left c.loop-line.count (c.loop-line.count + 2) c.loop-line.line-iterator.rest.now c.in-None.ensures.steps.0 ∙ c.loop-line.invariant.1

@@ -1,14 +1,15 @@
 -- `read` meets its contract: the first reason to refuse, or all lines in the table. Assumes nothing.
 use mathlib.Core.Path.{sym, subst}
-use Prim.Native.Nat.{ℕ, ◌+◌, zero-le}
-use native.Mathlib.Omega.{arith}
-use lib.ListN.{length, drop}
-use Rattle.text.specs.Written.{Text, feed}
+use Prim.Native.Nat.{ℕ, ◌+◌}
+use lib.ListN.{length, take, drop}
+use Rattle.std.proofs.lemmas.Result.{err_from_is_err_and}
+use Rattle.text.specs.Written.{Text}
 use Rattle.text.specs.Read.{JudgedOk}
-use Rattle.text.specs.Reading.{text_lines, read_lines}
+use Rattle.thread.specs.Names.{model_names}
+use Rattle.text.specs.Reading.{name_at, text_lines, read_lines}
 use Rattle.text.specs.Steps.{lines_in}
-use Rattle.text.proofs.Bytes.{until-le}
-use Rattle.text.proofs.Answers.{too-long, first-lacks, no-model, line-bad, all-good, bad-ok, good-ok}
+use Rattle.lists.proofs.Options.{held-some, held-none}
+use Rattle.text.proofs.Answers.{too-long, first-lacks, no-model, with-model, line-bad, all-good, bad-ok, good-ok}
 use Rattle.text.proofs.read.Goals as goal
 
 pub returns-then-text-gt-MOST_BYTES : goal.returns-then-text-gt-MOST_BYTES
@@ -19,31 +20,36 @@ returns-then-text-gt-MOST_BYTES c =
 pub returns-then-end-text : goal.returns-then-end-text
 returns-then-end-text c =
     let a = c.args in
-    bad-ok (length a.table.now) a.text.now c.clear.new.room 1 c.if-text-gt-MOST_BYTES.false (first-lacks a.text.now c.until-end.result c.until-end.ensures c.if-end-text.true) c.clear.ensures
+    bad-ok (length a.table.now) a.text.now c.clear.new.room 1 c.if-text-gt-MOST_BYTES.false (first-lacks a.text.now c.run-end.result c.run-end.ensures.value c.if-end-text.true) c.clear.ensures
 
-pub slice_bounds-model_of-end : goal.slice_bounds-model_of-end
-slice_bounds-model_of-end c =
-    omega (arith, until-le c.args.text.now feed 0 zero-le, c.until-end.ensures)
+pub returns-in_default : goal.returns-in_default
+returns-in_default c =
+    let text = c.args.text.now in
+    let end = c.run-end.result in
+    let none = held-none (name_at (take end text) model_names) (sym c.in_default.ensures.value) in
+    bad-ok (length c.args.table.now) text c.clear.new.room 1 c.if-text-gt-MOST_BYTES.false (no-model text end c.run-end.ensures.value c.if-end-text.false none) c.clear.ensures
 
-pub returns-then-model-ge2 : goal.returns-then-model-ge2
-returns-then-model-ge2 c =
-    let a = c.args in
-    bad-ok (length a.table.now) a.text.now c.clear.new.room 1 c.if-text-gt-MOST_BYTES.false
-    (no-model a.text.now c.until-end.result c.until-end.ensures c.if-end-text.false c.model_of-model.result c.model_of-model.ensures c.if-model-ge2.true)
-    c.clear.ensures
+pub returns-in_err-count : goal.returns-in_err-count
+returns-in_err-count c =
+    let text = c.args.text.now in
+    let end = c.run-end.result in
+    let model = c.in-Some.model in
+    let some = held-some (name_at (take end text) model_names) model (sym c.in-Some.ensures.value) in
+    let e = err_from_is_err_and c.from_residual.result c.from_residual.ensures.1 in
+    rw (e.1, e.2)
+    (line-bad (length c.args.table.now) text c.clear.new.room model (read_lines 2 (text_lines (drop (end + 1) text))) c.in_err-count.field-0.0 c.if-text-gt-MOST_BYTES.false
+    (with-model text end c.run-end.ensures.value c.if-end-text.false model some)
+    (sym c.in_err-count.ensures)
+    c.clear.ensures)
 
-pub returns-in-Bad : goal.returns-in-Bad
-returns-in-Bad c =
-    let a = c.args in
-    bad-ok (length a.table.now) a.text.now c.clear.new.room c.in-Bad.place c.if-text-gt-MOST_BYTES.false
-    (line-bad a.text.now c.until-end.result c.until-end.ensures c.if-end-text.false c.model_of-model.result c.model_of-model.ensures c.if-model-ge2.false c.in-Bad.place (sym c.in-Bad.ensures))
-    c.clear.ensures
-
-pub returns-in-Good : goal.returns-in-Good
-returns-in-Good c =
-    let a = c.args in
-    let told : Text = record { model = c.model_of-model.result; lines = lines_in (read_lines 2 (text_lines (drop (c.until-end.result + 1) a.text.now))) } in
-    let ok : JudgedOk (length a.table.now) told c.accept.result c.accept.new.table = subst (λ (n : ℕ). JudgedOk n told c.accept.result c.accept.new.table) c.clear.auto.room c.accept.ensures in
-    good-ok (length a.table.now) a.text.now c.accept.new.table told c.accept.result c.if-text-gt-MOST_BYTES.false
-    (all-good a.text.now c.until-end.result c.until-end.ensures c.if-end-text.false c.model_of-model.result c.model_of-model.ensures c.if-model-ge2.false c.in-Good.count (sym c.in-Good.ensures))
+pub returns : goal.returns
+returns c =
+    let text = c.args.text.now in
+    let end = c.run-end.result in
+    let model = c.in-Some.model in
+    let some = held-some (name_at (take end text) model_names) model (sym c.in-Some.ensures.value) in
+    let told : Text = record { model = model; lines = lines_in (read_lines 2 (text_lines (drop (end + 1) text))) } in
+    let ok : JudgedOk (length c.args.table.now) told c.accept.result c.accept.new.table = subst (λ (n : ℕ). JudgedOk n told c.accept.result c.accept.new.table) c.clear.auto.room c.accept.ensures in
+    good-ok (length c.args.table.now) text c.accept.new.table told c.accept.result c.if-text-gt-MOST_BYTES.false
+    (all-good text end c.run-end.ensures.value c.if-end-text.false model some c.in_ok-count.count (sym c.in_ok-count.ensures))
     ok

@@ -1,6 +1,0 @@
--- The measure of `put_decimal` is the number.
-use Rattle.bytes_out.proofs.+put_decimal.Given as goal
-
--- proposed from what the function passes where it calls itself
-abbrev pub decreases-put_decimal : goal.decreases-put_decimal
-decreases-put_decimal l = l.n
