@@ -146,14 +146,8 @@ pub extern "C" fn nardiplex_run_buffered(
 )
     ensures { RunPassed (buffered_ran (run_buffered (start_of model threads (t0.now ∷ t1.now ∷ t2.now ∷ t3.now ∷ []) memory.now registers.now schedule.now))) state.new answer.new }
 {
-    let ran = run_buffered::run_buffered(
-        model,
-        threads,
-        &[t0, t1, t2, t3],
-        *memory,
-        *registers,
-        schedule,
-    );
+    let tables = [t0, t1, t2, t3];
+    let ran = run_buffered::run_buffered(model, threads, &tables, *memory, *registers, schedule);
     pass(ran, state, answer);
 }
 
@@ -182,21 +176,9 @@ pub extern "C" fn nardiplex_run_generated(
 )
     ensures { GeneratedPassed (run_generated (start_of model threads (t0.now ∷ t1.now ∷ t2.now ∷ t3.now ∷ []) memory.now registers.now schedule.now) (rooms_of (n0.old ∷ n1.old ∷ n2.old ∷ n3.old ∷ []) (e0.old ∷ e1.old ∷ e2.old ∷ e3.old ∷ []))) (n0.new ∷ n1.new ∷ n2.new ∷ n3.new ∷ []) (e0.new ∷ e1.new ∷ e2.new ∷ e3.new ∷ []) state.new answer.new }
 {
+    let tables = [t0, t1, t2, t3];
     let ran = run_generated::run_generated(
-        model,
-        threads,
-        &[t0, t1, t2, t3],
-        n0,
-        e0,
-        n1,
-        e1,
-        n2,
-        e2,
-        n3,
-        e3,
-        *memory,
-        *registers,
-        schedule,
+        model, threads, &tables, n0, e0, n1, e1, n2, e2, n3, e3, *memory, *registers, schedule,
     );
     pass(ran, state, answer);
 }

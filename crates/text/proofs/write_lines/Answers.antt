@@ -2,7 +2,7 @@
 use mathlib.Core.Path.{◌≡◌, refl, sym, ap, ◌∙◌}
 use Prim.Native.Nat.{ℕ, ◌+◌, ◌-◌, ◌*◌, ◌≤◌, ◌<◌}
 use native.Mathlib.Omega.{arith}
-use mathlib.Core.List.{List, ◌++◌}
+use mathlib.Core.List.{List, ◌∷◌, ◌++◌}
 use lib.ListN.{length, take, drop, length-drop}
 use lib.Seq.{take_all, paste}
 use Rattle.std.specs.Prelude.{Some, Result, Ok}
@@ -23,6 +23,10 @@ some-same e = cc
 
 ok-same : {a b : ℕ} → ◌≡◌ {A = Result ℕ Refusal} (Ok a) (Ok b) → a ≡ b
 ok-same e = cc
+
+-- line k is one of the good ones
+still-below : (k n count : ℕ) (ls behind : List (List ℕ)) (line : List ℕ) → ls ≡ line ∷ behind → judgement n (read_lines (n + 2) ls) ≡ Ok count → k ≡ n → k < count
+still-below k n count ls behind line e j same = omega (arith, same, next-below n line behind count (ap (λ (l : List (List ℕ)). judgement n (read_lines (n + 2) l)) (sym e) ∙ j))
 
 pub loop-k-init : goal.loop-k-init
 loop-k-init c =
@@ -47,41 +51,29 @@ unwrap-numbers-requires c =
 pub overflow_mul-k : goal.overflow_mul-k
 overflow_mul-k c =
     let k = c.in-Some.ensures.steps in
-    let n = c.loop-k.k-iterator.count in
-    let behind = text_lines c.next.new.self.iter.rest.now in
     let line = next-line c.loop-k.k-iterator.iter.rest.now c.in-Some.line.now c.next.new.self.iter.rest.now k.0.0 k.0.2 k.0.1.0 k.0.1.1 (k.0.1.2 _ (computes feed (λ x b q m. search (rules, tests)))).1 in
-    let j = ap (λ (ls : List (List ℕ)). judgement n (read_lines (n + 2) ls)) (sym line) ∙ c.loop-k.invariant.0 in
-    let below : c.in-Some.k < c.args.count = omega (arith, k.1, next-below n c.in-Some.line.now behind c.args.count j) in
+    let below = still-below c.in-Some.k c.loop-k.k-iterator.count c.args.count _ _ _ line c.loop-k.invariant.0 k.1 in
     search rules
 
 pub overflow_mul-k-in-loop-k : goal.overflow_mul-k-in-loop-k
 overflow_mul-k-in-loop-k c =
     let k = c.in-Some.ensures.steps in
-    let n = c.loop-k.k-iterator.count in
-    let behind = text_lines c.next.new.self.iter.rest.now in
     let line = next-line c.loop-k.k-iterator.iter.rest.now c.in-Some.line.now c.next.new.self.iter.rest.now k.0.0 k.0.2 k.0.1.0 k.0.1.1 (k.0.1.2 _ (computes feed (λ x b q m. search (rules, tests)))).1 in
-    let j = ap (λ (ls : List (List ℕ)). judgement n (read_lines (n + 2) ls)) (sym line) ∙ c.loop-k.invariant.0 in
-    let below : c.in-Some.k < c.args.count = omega (arith, k.1, next-below n c.in-Some.line.now behind c.args.count j) in
+    let below = still-below c.in-Some.k c.loop-k.k-iterator.count c.args.count _ _ _ line c.loop-k.invariant.0 k.1 in
     search rules
 
 pub offset_bounds-table-k : goal.offset_bounds-table-k
 offset_bounds-table-k c =
     let k = c.in-Some.ensures.steps in
-    let n = c.loop-k.k-iterator.count in
-    let behind = text_lines c.next.new.self.iter.rest.now in
     let line = next-line c.loop-k.k-iterator.iter.rest.now c.in-Some.line.now c.next.new.self.iter.rest.now k.0.0 k.0.2 k.0.1.0 k.0.1.1 (k.0.1.2 _ (computes feed (λ x b q m. search (rules, tests)))).1 in
-    let j = ap (λ (ls : List (List ℕ)). judgement n (read_lines (n + 2) ls)) (sym line) ∙ c.loop-k.invariant.0 in
-    let below : c.in-Some.k < c.args.count = omega (arith, k.1, next-below n c.in-Some.line.now behind c.args.count j) in
+    let below = still-below c.in-Some.k c.loop-k.k-iterator.count c.args.count _ _ _ line c.loop-k.invariant.0 k.1 in
     search rules
 
 pub slice_bounds-copy_from_slice-end : goal.slice_bounds-copy_from_slice-end
 slice_bounds-copy_from_slice-end c =
     let k = c.in-Some.ensures.steps in
-    let n = c.loop-k.k-iterator.count in
-    let behind = text_lines c.next.new.self.iter.rest.now in
     let line = next-line c.loop-k.k-iterator.iter.rest.now c.in-Some.line.now c.next.new.self.iter.rest.now k.0.0 k.0.2 k.0.1.0 k.0.1.1 (k.0.1.2 _ (computes feed (λ x b q m. search (rules, tests)))).1 in
-    let j = ap (λ (ls : List (List ℕ)). judgement n (read_lines (n + 2) ls)) (sym line) ∙ c.loop-k.invariant.0 in
-    let below : c.in-Some.k < c.args.count = omega (arith, k.1, next-below n c.in-Some.line.now behind c.args.count j) in
+    let below = still-below c.in-Some.k c.loop-k.k-iterator.count c.args.count _ _ _ line c.loop-k.invariant.0 k.1 in
     search rules
 
 pub loop-k-preserved : goal.loop-k-preserved
