@@ -54,11 +54,11 @@ module _ (refusal : ℕ → Option Refusal) where
 
   -- 14, and then the threads
   module _ (count : ℕ) where
-    no_threads : count ≡ 0 → threads_refused refusal count ≡ some (record { thread = 0; refusal = R.BadThreads })
+    pub no_threads : count ≡ 0 → threads_refused refusal count ≡ some (record { thread = 0; refusal = R.BadThreads })
     unfolding threads_refused bad_threads
     no_threads e = rw (e, threads_refused)
 
-    many-threads : 4 < count → threads_refused refusal count ≡ some (record { thread = 0; refusal = R.BadThreads })
+    pub many-threads : 4 < count → threads_refused refusal count ≡ some (record { thread = 0; refusal = R.BadThreads })
     unfolding threads_refused bad_threads
     many-threads h = rw (eq-false count 0 (λ e. omega arith), lt-true most_threads count h, threads_refused)
 

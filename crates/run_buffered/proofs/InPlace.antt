@@ -10,6 +10,7 @@ use mathlib.Core.List.{List}
 use lib.ListN.{length, set}
 use lib.Seq.{get_or-set_same, get_or-set_other}
 use borrow.Rule.Slice.PartMut.{put_mid, mid_of, put_same}
+use Rattle.std.specs.Prelude as Std
 use Rattle.std.specs.Prelude.{Some, None}
 use Rattle.thread.specs.declared.Line.{Line}
 use Rattle.thread.specs.declared.Model.{Model}
@@ -96,12 +97,12 @@ module _ (f : Flat) (z : Sized f) (t : ℕ) (h : t < 4) (k : ℕ) (sixteen : k �
     back l n = turned_flat k f t M' (thread_of l n regs names values)
 
     -- a step in the lent parts is a turn in place
-    pub turn-in-place : (n : Turned) → left (Some n) M' regs names values ≡ left_by (turned m i choice M (lent_thread k f t)) M (lent_thread k f t)
+    turn-taken : (n : Turned) → left (Some n) M' regs names values ≡ left_by (turned m i choice M (lent_thread k f t)) M (lent_thread k f t)
         → length regs ≡ length (mid_of (16 * t) k f.registers)
         → length names ≡ length (mid_of (16 * t) k f.names)
         → length values ≡ length (mid_of (16 * t) k f.values)
         → TurnIs m i t choice f true (back n.line n.count)
-    turn-in-place n e rs xs vs =
+    turn-taken n e rs xs vs =
         let own : ThreadState = thread_of n.line n.count regs names values in
         let is = lent-step ∙ left-some M (lent_thread k f t) M' regs names values (turned m i choice M (lent_thread k f t)) n e in
         let set_own : threads_in (turned_flat 16 f t M' own) ≡ set (threads_in f) t own =
@@ -120,3 +121,17 @@ module _ (f : Flat) (z : Sized f) (t : ℕ) (h : t < 4) (k : ℕ) (sixteen : k �
         let x = ap (λ (l : Left). put f.names l.names) same ∙ put_same (16 * t) k f.names in
         let v = ap (λ (l : Left). put f.values l.values) same ∙ put_same (16 * t) k f.values in
         (ap (Option.map (after_step f t)) (lent-step ∙ no), λ j. all_in (record f { memory = (same j).memory; registers = r j; names = x j; values = v j }))
+
+    -- the flat lists after a turn, by its answer
+    abbrev pub left_in : Std.Option Turned → Flat
+    left_in None = record f { memory = M'; registers = put_mid (16 * t) k f.registers regs; names = put_mid (16 * t) k f.names names; values = put_mid (16 * t) k f.values values }
+    left_in (Some n) = back n.line n.count
+
+    -- a turn of the lent parts is a turn in place, whether it has a step or none
+    pub turn-in-place : (r : Std.Option Turned) → left r M' regs names values ≡ left_by (turned m i choice M (lent_thread k f t)) M (lent_thread k f t)
+        → length regs ≡ length (mid_of (16 * t) k f.registers)
+        → length names ≡ length (mid_of (16 * t) k f.names)
+        → length values ≡ length (mid_of (16 * t) k f.values)
+        → TurnIs m i t choice f (Std.is_some r) (left_in r)
+    turn-in-place None e rs xs vs = turn-missing e
+    turn-in-place (Some n) e rs xs vs = turn-taken n e rs xs vs

@@ -20,21 +20,21 @@ use shown::Ran;
 #[derive(Clone, Copy)]
 struct Machine<'a> {
     threads: u32,
-    tables: [&'a [u32]; 4],
+    tables: &'a [&'a [u32]; 4],
     flat: Flat,
 }
 
 impl Turns for Machine<'_> {
     type Own = Generated;
 
-    ghost step = { λ m. sought_step (contents m.tables) };
+    ghost step = { λ m. sought_step (contents m.tables.now) };
 
     ghost world = { λ m. world m.threads m.flat.memory (threads_in m.flat) };
 
     fn turn(&mut self, t: u32, choice: u32) -> bool {
         let threads = self.threads;
         let tables = self.tables;
-        self.flat.turn(threads, &tables, t, choice)
+        self.flat.turn(threads, tables, t, choice)
     }
 }
 
@@ -55,14 +55,15 @@ fn go(
     let k1 = 7 * (counts[1] as usize);
     let k2 = 7 * (counts[2] as usize);
     let k3 = 7 * (counts[3] as usize);
+    let tables = [
+        &edges[0][..k0],
+        &edges[1][..k1],
+        &edges[2][..k2],
+        &edges[3][..k3],
+    ];
     let mut machine = Machine {
         threads,
-        tables: [
-            &edges[0][..k0],
-            &edges[1][..k1],
-            &edges[2][..k2],
-            &edges[3][..k3],
-        ],
+        tables: &tables,
         flat: Flat {
             memory: start,
             nodes: [0u32; 4],
