@@ -178,10 +178,10 @@
 
 /* A call needs no more bytes of stack than this, its arguments and its return address among them. tests/c/stack.sh
    measures it; to what it finds at least 1,024 bytes are added. No function calls itself, and no size depends on an input. */
-#define NARDIPLEX_STACK_READ 2048            /* measured: 283 */
-#define NARDIPLEX_STACK_BUILD 8192           /* measured: 3,039 */
-#define NARDIPLEX_STACK_RUN_BUFFERED 8192    /* measured: 2,623 */
-#define NARDIPLEX_STACK_RUN_GENERATED 16384  /* measured: 6,415 */
+#define NARDIPLEX_STACK_READ 2048            /* measured: 263 */
+#define NARDIPLEX_STACK_BUILD 8192           /* measured: 2,015 */
+#define NARDIPLEX_STACK_RUN_BUFFERED 8192    /* measured: 6,495 */
+#define NARDIPLEX_STACK_RUN_GENERATED 16384  /* measured: 9,023 */
 
 /* ---- Functions ------------------------------------------------------------------------------------------------ */
 

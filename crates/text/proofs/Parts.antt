@@ -7,13 +7,14 @@ use mathlib.Core.List.{List, [], ◌∷◌}
 use lib.ListN.{length, get_or, set}
 use lib.Seq.{sets}
 use Rattle.lists.proofs.Lists.{not_some}
+use Rattle.lists.proofs.Tests.{lt-true}
 use Rattle.thread.specs.Numbers.{filled}
 use Rattle.decimal.specs.Decimal.{read_number}
-use Rattle.text.specs.Written.{numbers_of}
+use Rattle.text.specs.Written.{kinds, numbers_of}
 use Rattle.thread.specs.Table.{fields_of}
 use Rattle.thread.specs.Names.{instr_names}
 use Rattle.text.specs.Reading.{name_at, field_then, read_fields, entry, read_entry, read_parts}
-use Rattle.text.proofs.Bytes.{counts, count_at, count-le}
+use Rattle.text.proofs.Bytes.{counts, count_at, count-le, named}
 
 -- the loop: the numbers so far, and the parts ahead
 abbrev pub stored : List ℕ → ℕ → Option (List ℕ) → Option (List ℕ)
@@ -75,6 +76,11 @@ all-stored kind n ps h = go (read_fields n ps) (fields-length n ps)
     go none l = refl
     go (some fs) l = ap some (five-stored kind fs (omega (arith, l fs refl)))
 
+-- of one of the twelve kinds
+pub of-kind : (kind : ℕ) (ps : List (List ℕ)) → kind < kinds → read_entry kind ps ≡ map (entry kind) (read_fields (length (fields_of kind)) ps)
+unfolding read_entry
+of-kind kind ps h = rw (lt-true kind kinds h)
+
 -- a line's name, and the fields behind it
 module _ (name : List ℕ) (ps : List (List ℕ)) where
   pub unknown : name_at name instr_names ≡ none → map numbers_of (read_parts (name ∷ ps)) ≡ none
@@ -82,7 +88,10 @@ module _ (name : List ℕ) (ps : List (List ℕ)) where
   unknown n = rw n
 
   pub known : (kind : ℕ) → name_at name instr_names ≡ some kind → stored (kind ∷ 0 ∷ 0 ∷ 0 ∷ 0 ∷ []) 1 (read_fields (get_or counts kind 0 - 0) ps) ≡ map numbers_of (read_parts (name ∷ ps))
-  unfolding read_parts read_entry bind
+  unfolding read_parts bind
   known kind k =
       let z : get_or counts kind 0 - 0 ≡ get_or counts kind 0 = omega arith in
-      rw (z, count_at kind) (all-stored kind (length (fields_of kind)) ps (count-le kind) ∙ rw k (sym (map-map numbers_of (entry kind) (read_fields (length (fields_of kind)) ps))))
+      let below : kind < kinds = (named name instr_names kind k).below in
+      rw (z, count_at kind)
+      (all-stored kind (length (fields_of kind)) ps (count-le kind)
+      ∙ rw (k, of-kind kind ps below) (sym (map-map numbers_of (entry kind) (read_fields (length (fields_of kind)) ps))))

@@ -170,7 +170,7 @@ line_read e h =
     let name = instr_name e.kind in
     let l = name ++ tabbed (map decimal e.fields) in
     let p : parts l ≡ name ∷ map decimal e.fields = parts-tabbed name (map decimal e.fields) (letters-no-tab name (letters e.kind h.known)) (decimals-no-tab e.fields) in
-    rw (body_ended l) (rw p (rw (named-kind e.kind h.known) (is-entry e.kind (map decimal e.fields) e.fields (rw (← h.used) (fields-written e.fields h.small)))))
+    rw (body_ended l) (rw p (rw (named-kind e.kind h.known) (is-entry e.kind (map decimal e.fields) e.fields h.known (rw (← h.used) (fields-written e.fields h.small)))))
 
 -- what is read as an instruction is what is written of it
 parts-written : (k : List ℕ) (ps : List (List ℕ)) (e : Entry) → joined ps ≡ k → read_parts ps ≡ some e → Proper e × (k ≡ instr_name e.kind ++ tabbed (map decimal e.fields))

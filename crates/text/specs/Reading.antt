@@ -6,7 +6,7 @@ use Rattle.std.proofs.Math.Option.{Option, none, some, map, bind}
 use Rattle.thread.specs.Table.{fields_of}
 use Rattle.thread.specs.Names.{instr_names, model_names}
 use Rattle.decimal.specs.Decimal.{read_number}
-use Rattle.text.specs.Written.{Entry, Text, tab, feed}
+use Rattle.text.specs.Written.{Entry, Text, tab, feed, kinds}
 
 -- the lines of a text, each with its line feed, which the last may lack
 unfoldable pub line_onto : Bool → ℕ → List (List ℕ) → List (List ℕ)
@@ -58,7 +58,7 @@ entry kind fields = record { kind = kind; fields = fields }
 
 unfoldable pub read_entry : ℕ → List (List ℕ) → Option Entry
 unfolding fields_of read_fields
-read_entry kind ps = map (entry kind) (read_fields (length (fields_of kind)) ps)
+read_entry kind ps = cond (ltb kind kinds) (map (entry kind) (read_fields (length (fields_of kind)) ps)) none
 
 unfoldable pub read_parts : List (List ℕ) → Option Entry
 unfolding bind read_entry name_at instr_names
