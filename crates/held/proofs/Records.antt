@@ -134,3 +134,16 @@ few-step m tab t c fits h = go (own_at m t)
         ≡ next_for (bind o (λ (a : Generated). maybe.map (back (λ _. generated_step tab) (world_of m) t) (generated_step tab c (record { memory = m.memory; own = a })))) m
     go none = refl
     go (some a) = rw (few-found a.node c a.registers fits tab h)
+
+-- Two laws that nothing cites now: five numbers are their list one by one, and a place further on is nearer the end.
+pub five : (l : List ℕ) → length l ≡ 5 → l ≡ get_or l 0 0 ∷ get_or l 1 0 ∷ get_or l 2 0 ∷ get_or l 3 0 ∷ get_or l 4 0 ∷ []
+five [] e = absurd (omega arith)
+five (a ∷ []) e = absurd (omega arith)
+five (a ∷ b ∷ []) e = absurd (omega arith)
+five (a ∷ b ∷ c ∷ []) e = absurd (omega arith)
+five (a ∷ b ∷ c ∷ d ∷ []) e = absurd (omega arith)
+five (a ∷ b ∷ c ∷ d ∷ x ∷ []) e = refl
+five (a ∷ b ∷ c ∷ d ∷ x ∷ y ∷ l) e = absurd (omega arith)
+
+pub nearer : {i k l : ℕ} → i < l → i < k → k ≤ l → l - k < l - i
+nearer a b d = omega arith
